@@ -1,13 +1,7 @@
 -- What an accepted insertion leaves: a settled table with the collection, the pair entered in its map, and more nodes reached.
-use mathlib.Core.Path.{◌≡◌, refl, ap, ◌∙◌}
-use mathlib.Core.Bool.{true, false, ◌||◌}
-use mathlib.Core.Logic.{◌↔◌, inl}
+use Rattle.std.proofs.Common.{◌≡◌, ℕ, ◌<◌, ◌≤◌, true, false, ◌||◌, eqb, ◌↔◌, length, refl, ap, ◌∙◌, inl, le-ltb, lt-ltb}
 use mathlib.Core.Option.{some}
-use Prim.Native.Nat.{ℕ, ◌<◌, ◌≤◌}
-use lib.Dec.{eqb}
-use lib.ListN.{length}
 use lib.Seq.{take-length}
-use borrow.Author.Tests.{le-ltb, lt-ltb}
 use Rattle.model.specs.Table.{Words, at, root_word, no_collection}
 use Rattle.model.specs.Slots.{pointer_of}
 use Rattle.model.specs.Reached.{map_of}
@@ -44,9 +38,11 @@ module _ (n k r c words dock : ℕ) (t : Words) (ok : refusal (insertion n k r c
   unfolding stores_of
   after-settled = steps.settles
 
+  -- after an accepted insertion nothing is left over in the table
   pub after-nothing : leftover_all (apply (stores_of (insertion n k r c) t) t) ≡ some nothing
   after-nothing = settled-nothing t₁ after-settled
 
+  -- the collection is still there after an accepted insertion
   pub after-collection : no_collection n (apply (stores_of (insertion n k r c) t) t) ≡ false
   unfolding stores_of
   after-collection =
@@ -58,12 +54,16 @@ module _ (n k r c words dock : ℕ) (t : Words) (ok : refusal (insertion n k r c
   after-map = steps.maps
 
   -- the recordings are those before it and its own
-  pub after-recordings : (q : ℕ) → has_recording q (map_of n (apply (stores_of (insertion n k r c) t) t)) ≡ (eqb r q || has_recording q (map_of n t))
+  pub after-recordings :
+      (q : ℕ) → has_recording q (map_of n (apply (stores_of (insertion n k r c) t) t)) ≡ (eqb r q || has_recording q (map_of n t))
   after-recordings q =
       ap (has_recording q) after-map ∙ enter-recording q k (pointer_of r c) (map_of n t)
       ∙ ap (λ (p : ℕ). eqb p q || has_recording q (map_of n t)) (recording-of r c ((recording-iff r).0 passes.allows.recording-ok).1)
 
 -- ---- a list that is too short, on a sound table with the collection, for a dock that there is
 
-pub five : (n k r c words dock : ℕ) (t : Words) → sound t ≡ true → no_collection n t ≡ false → dock ≤ 1 → words < words_for dock → refusal (insertion n k r c) words dock t ≡ 5
-five n k r c words dock t s h d l = number-on-sound (insertion n k r c) words dock t s h ∙ rw (le-ltb 1 dock d, lt-ltb words (words_for dock) l)
+-- on a sound table that has the collection, an order list too short for its dock refuses an insertion with 5
+pub five : (n k r c words dock : ℕ) (t : Words) → sound t ≡ true → no_collection n t ≡ false → dock ≤ 1 → words < words_for dock
+    → refusal (insertion n k r c) words dock t ≡ 5
+five n k r c words dock t s h d l =
+    number-on-sound (insertion n k r c) words dock t s h ∙ rw (le-ltb 1 dock d, lt-ltb words (words_for dock) l)

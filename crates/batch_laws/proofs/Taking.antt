@@ -1,16 +1,12 @@
 -- An accepted insertion makes as many unreachable nodes reached as its run has, and one more for a new root.
-use mathlib.Core.Path.{◌≡◌}
-use mathlib.Core.Bool.{cond}
-use mathlib.Core.List.{List, ◌++◌}
-use Prim.Native.Nat.{ℕ, zero, suc, ◌+◌}
-use native.Mathlib.Omega.{arith}
-use lib.ListN.{length}
+use Rattle.std.proofs.Common.{◌≡◌, ℕ, zero, suc, ◌+◌, cond, List, ◌++◌, length, arith}
 use Rattle.model.specs.Table.{Words, root_word}
 use Rattle.model.specs.Slots.{pointer_of}
 use Rattle.model.specs.Reached.{reached_all}
 use Rattle.model.specs.SoundTest.{nothing, sound}
 use Rattle.model.specs.Orders.{apply}
-use Rattle.model.specs.Writes.{shift_in_at, unreachable, standing, run, root_in_run, splits, root_stores, insert_settled, repair_stores, repaired, insert_stores, insertion, stores_of}
+use Rattle.model.specs.Writes.{shift_in_at, unreachable, standing, run, root_in_run, splits, root_stores, insert_settled, repair_stores}
+use Rattle.model.specs.Writes.{repaired, insert_stores, insertion, stores_of}
 use Rattle.model.specs.Refusals.{refusal}
 use Rattle.cut_laws.proofs.Applying.{apply-append}
 use Rattle.two_laws.specs.Parts.{Enters, split_for, Ready}
@@ -26,12 +22,18 @@ use Rattle.two_laws.proofs.CollectionTwo.{unreachable-all}
 
 -- ---- the splits
 
-splits-take : (m n : ℕ) (ws : List ℕ) (t : Words) (k : ℕ) → Arr (root_word n) ws t → Ready m n t k → length (unreachable t) ≡ length (unreachable (apply (splits n m t k) t)) + m
+splits-take : (m n : ℕ) (ws : List ℕ) (t : Words) (k : ℕ) → Arr (root_word n) ws t → Ready m n t k → length (unreachable t)
+    ≡ length (unreachable (apply (splits n m t k) t)) + m
 unfolding splits apply
 splits-take zero n ws t k a r = omega arith
 splits-take (suc l) n ws t k a r =
     let ss = split_for n t l k in
-    rw (apply-append ss (splits n l (apply ss t) k) t) (omega (arith, first-takes l n ws t k a r, splits-take l n ws (apply ss t) k (first-arr l n ws t k a r) (ready-next l n ws t k a r)))
+    rw (apply-append ss (splits n l (apply ss t) k) t)
+    (omega (
+      arith,
+      first-takes l n ws t k a r,
+      splits-take l n ws (apply ss t) k (first-arr l n ws t k a r) (ready-next l n ws t k a r),
+    ))
 
 -- ---- all of it
 
@@ -51,7 +53,11 @@ settled-take n ws t k r c arr f e =
     let t₂ = apply (splits n m t₁ k) t₁ in
     let leaf = leaf-for n t₂ k (splits-course m n ws t₁ k i a.1).whole.left.orderly in
     let d = in-unreachable t₂ (standing n t₂ 0 k) leaf.some leaf.level k y (splits-room m n ws t₁ k i a.1) in
-    rw (apply-append (root_stores n t k) (splits n m t₁ k ++ shift_in_at t₂ (standing n t₂ 0 k) k y) t, apply-append (splits n m t₁ k) (shift_in_at t₂ (standing n t₂ 0 k) k y) t₁, d)
+    rw (
+      apply-append (root_stores n t k) (splits n m t₁ k ++ shift_in_at t₂ (standing n t₂ 0 k) k y) t,
+      apply-append (splits n m t₁ k) (shift_in_at t₂ (standing n t₂ 0 k) k y) t₁,
+      d,
+    )
     (omega (arith, root-take n ws t k arr f e.not-high e.enough, splits-take m n ws t₁ k i a.1))
 
 -- An accepted insertion: the nodes reached after it are those reached before it and those that it took.
@@ -69,8 +75,10 @@ module _ (n k r c words dock : ℕ) (t : Words) (ok : refusal (insertion n k r c
       let u = repaired t in
       let beside = arranged (root_word n) u (is-repaired (root_word n) t s (there n t passes.collection).1) in
       let tree = settled-tree (root_word n) beside.0 u beside.1 (repairs t s).settles in
-      rw (apply-append (repair_stores t) (insert_settled n u k (pointer_of r c)) t, ← (unreachable-later t s)) (settled-take n beside.0 u k r c beside.1 tree passes.allows)
+      rw (apply-append (repair_stores t) (insert_settled n u k (pointer_of r c)) t, ← (unreachable-later t s))
+      (settled-take n beside.0 u k r c beside.1 tree passes.allows)
 
+  -- after an accepted insertion as many more nodes are reached as it takes
   pub reached-after : length (reached_all (apply (stores_of (insertion n k r c) t) t)) ≡ length (reached_all t) + takes n (repaired t) k
   reached-after =
       omega (

@@ -1,9 +1,5 @@
 -- The orders of a list, two words each: the next one, the end, and the orders that the pairs of words give.
-use mathlib.Core.Path.{◌≡◌, refl, ap, sym, ◌∙◌}
-use mathlib.Core.Bool.{true, ◌&&◌}
-use mathlib.Core.List.{List, [], ◌∷◌, ◌++◌}
-use Prim.Native.Nat.{ℕ, ◌<◌}
-use lib.ListN.{length}
+use Rattle.std.proofs.Common.{◌≡◌, ℕ, ◌<◌, true, ◌&&◌, List, [], ◌∷◌, ◌++◌, length, sym, refl, ap, ◌∙◌}
 use Rattle.std.specs.List.{list_all}
 use Rattle.std.specs.declared.slice.ChunksExact.{ChunksExact}
 use Rattle.std.specs.Slice.Iter.{chunks_exact_rest, chunks_exact_size, chunks_exact_steps}
@@ -16,11 +12,13 @@ use Rattle.model.specs.Orders.{Order, order_of, decode, inside, all_inside, carr
 
 -- ---- the orders of the words left, of which a turn takes the first two
 
+-- fewer than two words are no order
 pub no-order : (ws : Words) → length ws < 2 → decode ws ≡ []
 unfolding decode
 no-order = no-two decode order_of refl (λ a. refl) (λ a b ws. refl)
 
 module _ (ws pair after : Words) (e : ws ≡ pair ++ after) (two : length pair ≡ 2) where
+  -- two words are one order, and the words after them decode to the orders after it
   pub next-order : decode ws ≡ order_of (at pair 0) (at pair 1) ∷ decode after
   unfolding decode
   next-order = first-two decode order_of refl (λ a. refl) (λ a b ws. refl) ws pair after e two
@@ -31,14 +29,18 @@ module _ (ws pair after : Words) (e : ws ≡ pair ++ after) (two : length pair �
     unfolding all_inside
     both = (and-iff _ _).0 (sym (ap (all_inside n) next-order) ∙ i)
 
+    -- if all orders of a list lie inside the table, the first one does
     pub inside-here : (m : ℕ) → m ≡ n → (o : Order) → o ≡ order_of (at pair 0) (at pair 1) → inside m o ≡ true
     inside-here m q o p = rw (q, p) both.0
 
+    -- if all orders of a list lie inside the table, those after the first do
     pub inside-next : all_inside n (decode after) ≡ true
     inside-next = both.1
 
-  pub carry-next : (t y : Words) → carry (decode ws) t ≡ y → (o : Order) → o ≡ order_of (at pair 0) (at pair 1) → (u : Words) → u ≡ carry (o ∷ []) t → carry (decode after) u ≡ y
-  carry-next t y c o p u q = rw (q, p) (sym (carry-append (order_of (at pair 0) (at pair 1) ∷ []) _ t) ∙ sym (ap (λ (os : List Order). carry os t) next-order) ∙ c)
+  pub carry-next : (t y : Words) → carry (decode ws) t ≡ y → (o : Order) → o ≡ order_of (at pair 0) (at pair 1) → (u : Words) → u
+      ≡ carry (o ∷ []) t → carry (decode after) u ≡ y
+  carry-next t y c o p u q =
+      rw (q, p) (sym (carry-append (order_of (at pair 0) (at pair 1) ∷ []) _ t) ∙ sym (ap (λ (os : List Order). carry os t) next-order) ∙ c)
 
 pub carry-end : (ws t y : Words) → carry (decode ws) t ≡ y → length ws < 2 → t ≡ y
 unfolding carry
@@ -46,7 +48,8 @@ carry-end ws t y c h = sym (ap (λ (os : List Order). carry os t) (no-order ws h
 
 -- ---- the test, over the pairs of words
 
-pub pairs-give : {s : ChunksExact ℕ} (ws : Words) → chunks_exact_rest s ≡ ws → chunks_exact_size s ≡ 2 → YieldsList chunks_exact_steps (λ x. order_of (at x.now 0) (at x.now 1)) s (decode ws)
+pub pairs-give : {s : ChunksExact ℕ} (ws : Words) → chunks_exact_rest s ≡ ws → chunks_exact_size s ≡ 2
+    → YieldsList chunks_exact_steps (λ x. order_of (at x.now 0) (at x.now 1)) s (decode ws)
 unfolding decode
 pairs-give {s} ws r e = twos-come decode order_of refl (λ a. refl) (λ a b us. refl) ws s e r
 

@@ -1,7 +1,5 @@
 -- Lent words that a quick call leaves: a class change its summary, a repair all of them.
-use mathlib.Core.Path.{◌≡◌, refl}
-use Prim.Native.Nat.{ℕ, zero, suc}
-use lib.ListN.{length}
+use Rattle.std.proofs.Common.{◌≡◌, ℕ, zero, suc, length, refl}
 use Rattle.model.specs.Table.{Words}
 use Rattle.model.specs.Orders.{apply, orders, encode, list_with}
 use Rattle.model.specs.Refusals.{unless_refused}

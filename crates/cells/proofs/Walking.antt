@@ -1,13 +1,8 @@
 -- A cell at a time, as the code goes along a path.
-use mathlib.Core.Path.{◌≡◌, refl, ap, sym, ◌∙◌}
-use mathlib.Core.Bool.{true, false}
-use mathlib.Core.Logic.{◌≢◌}
-use Prim.Native.Nat.{ℕ, suc, ◌-◌, ◌≤◌, ◌<◌}
-use native.Mathlib.Omega.{arith}
-use lib.Dec.{eqb, leb}
-use lib.ListN.{length, set}
+use Rattle.std.proofs.Common.{◌≡◌, ℕ, suc, ◌-◌, ◌<◌, ◌≤◌, true, false, eqb, leb, ◌≢◌, length, set, sym, refl, ap, ◌∙◌, arith, eq-eqb}
+use Rattle.std.proofs.Common.{ne_eqb, le-leb}
 use lib.Seq.{set_out}
-use borrow.Author.Tests.{eq-eqb, ne_eqb, le-leb, lt-leb}
+use borrow.Author.Tests.{lt-leb}
 use Rattle.model.specs.Table.{Words, at}
 use Rattle.model.specs.Cells.{next_cell, home_of, seek, cell_for, holds, entered, ahead, closed_up, without}
 use Rattle.list_laws.proofs.Tools.{or-right}
@@ -39,9 +34,12 @@ module _ (cs : Words) (x i f : ℕ) where
   unfolding seek
   seek-free h e = sym (one-more h ∙ rw (eq-eqb (at cs i) 0 e, or-right (eqb (at cs i) x) true refl, seek))
 
-  pub seek-on : (m : ℕ) → 0 < f → (at cs i ≡ x → ⊥) → (at cs i ≡ 0 → ⊥) → m ≡ length cs → (j : ℕ) → j ≡ next_cell m i → seek cs x j (f - 1) ≡ seek cs x i f
+  pub seek-on : (m : ℕ) → 0 < f → (at cs i ≡ x → ⊥) → (at cs i ≡ 0 → ⊥) → m ≡ length cs → (j : ℕ) → j ≡ next_cell m i
+      → seek cs x j (f - 1) ≡ seek cs x i f
   unfolding seek
-  seek-on m h d z l j q = ap (λ (k : ℕ). seek cs x k (f - 1)) (q ∙ ap (λ (n : ℕ). next_cell n i) l) ∙ sym (one-more h ∙ rw (ne_eqb (at cs i) x d, ne_eqb (at cs i) 0 z, seek))
+  seek-on m h d z l j q =
+      ap (λ (k : ℕ). seek cs x k (f - 1)) (q ∙ ap (λ (n : ℕ). next_cell n i) l)
+      ∙ sym (one-more h ∙ rw (ne_eqb (at cs i) x d, ne_eqb (at cs i) 0 z, seek))
 
   pub seek-out : (m : ℕ) → f ≡ 0 → m ≡ length cs → m ≡ seek cs x i f
   unfolding seek
@@ -69,16 +67,20 @@ enter-at cs x p e = ap (λ (i : ℕ). set cs i x) e
 
 module _ (m : ℕ) (cs : Words) (i j : ℕ) (l : m ≡ length cs) where
   -- the number of cell j moves, or not; d and e are how far it is from the gap and from its home
-  pub gap-moves : (h d e : ℕ) → at cs j ≢ 0 → h ≡ home_of m (at cs j) → d ≡ ahead m i j → e ≡ ahead m h j → d ≤ e → (f : ℕ) → closed_up cs i j (suc f) ≡ closed_up (set cs i (at cs j)) j (next_cell m j) f
+  pub gap-moves : (h d e : ℕ) → at cs j ≢ 0 → h ≡ home_of m (at cs j) → d ≡ ahead m i j → e ≡ ahead m h j → d ≤ e → (f : ℕ)
+      → closed_up cs i j (suc f) ≡ closed_up (set cs i (at cs j)) j (next_cell m j) f
   unfolding closed_up
   gap-moves h d e z a b c k f =
-      let t : leb (ahead (length cs) i j) (ahead (length cs) (home_of (length cs) (at cs j)) j) ≡ true = rw (sym l, sym a, sym b, sym c) (le-leb d e k) in
+      let t : leb (ahead (length cs) i j) (ahead (length cs) (home_of (length cs) (at cs j)) j) ≡ true =
+      rw (sym l, sym a, sym b, sym c) (le-leb d e k) in
       rw (ne_eqb (at cs j) 0 z, t, closed_up, l)
 
-  pub gap-stays : (h d e : ℕ) → at cs j ≢ 0 → h ≡ home_of m (at cs j) → d ≡ ahead m i j → e ≡ ahead m h j → e < d → (f : ℕ) → closed_up cs i j (suc f) ≡ closed_up cs i (next_cell m j) f
+  pub gap-stays : (h d e : ℕ) → at cs j ≢ 0 → h ≡ home_of m (at cs j) → d ≡ ahead m i j → e ≡ ahead m h j → e < d → (f : ℕ)
+      → closed_up cs i j (suc f) ≡ closed_up cs i (next_cell m j) f
   unfolding closed_up
   gap-stays h d e z a b c k f =
-      let t : leb (ahead (length cs) i j) (ahead (length cs) (home_of (length cs) (at cs j)) j) ≡ false = rw (sym l, sym a, sym b, sym c) (lt-leb d e k) in
+      let t : leb (ahead (length cs) i j) (ahead (length cs) (home_of (length cs) (at cs j)) j) ≡ false =
+      rw (sym l, sym a, sym b, sym c) (lt-leb d e k) in
       rw (ne_eqb (at cs j) 0 z, t, closed_up, l)
 
 pub gap-ends : (cs : Words) (i j f : ℕ) → 0 < f → at cs j ≡ 0 → set cs i 0 ≡ closed_up cs i j f
@@ -89,10 +91,12 @@ pub gap-out : (cs : Words) (i j f : ℕ) → f ≡ 0 → set cs i 0 ≡ closed_u
 unfolding closed_up
 gap-out cs i j f e = sym (ap (closed_up cs i j) e)
 
-pub gap-on : (cs cs' : Words) (i i' j j' m n f : ℕ) → 0 < f → ((f : ℕ) → closed_up cs i j (suc f) ≡ closed_up cs' i' (next_cell m j) f) → j' ≡ next_cell n j → n ≡ m → closed_up cs' i' j' (f - 1) ≡ closed_up cs i j f
+pub gap-on : (cs cs' : Words) (i i' j j' m n f : ℕ) → 0 < f → ((f : ℕ) → closed_up cs i j (suc f) ≡ closed_up cs' i' (next_cell m j) f) → j'
+    ≡ next_cell n j → n ≡ m → closed_up cs' i' j' (f - 1) ≡ closed_up cs i j f
 gap-on cs cs' i i' j j' m n f h q e l =
     let z : f ≡ suc (f - 1) = omega arith in
-    sym (ap (closed_up cs i j) z ∙ q (f - 1) ∙ ap (λ (k : ℕ). closed_up cs' i' (next_cell k j) (f - 1)) (sym l) ∙ ap (λ (k : ℕ). closed_up cs' i' k (f - 1)) (sym e))
+    sym (ap (closed_up cs i j) z ∙ q (f - 1) ∙ ap (λ (k : ℕ). closed_up cs' i' (next_cell k j) (f - 1)) (sym l)
+    ∙ ap (λ (k : ℕ). closed_up cs' i' k (f - 1)) (sym e))
 
 -- ---- taken out
 
@@ -104,7 +108,8 @@ pub out-other : (cs : Words) (x p : ℕ) → p ≡ cell_for cs x → at cs p ≢
 unfolding without
 out-other cs x p e z = rw (sym (holds-at cs x p e), ne_eqb (at cs p) x z)
 
-pub out-at : (cs cs' : Words) (x p : ℕ) → p ≡ cell_for cs x → at cs p ≡ x → cs' ≡ closed_up cs p (next_cell (length cs) p) (length cs) → cs' ≡ without cs x
+pub out-at : (cs cs' : Words) (x p : ℕ) → p ≡ cell_for cs x → at cs p ≡ x → cs'
+    ≡ closed_up cs p (next_cell (length cs) p) (length cs) → cs' ≡ without cs x
 unfolding without
 out-at cs cs' x p e h q = q ∙ rw (sym (holds-at cs x p e), eq-eqb (at cs p) x h, sym e)
 

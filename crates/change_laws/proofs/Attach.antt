@@ -1,14 +1,8 @@
 -- The slot of B, which lacks it, put into the parent: the view is settled, with the same map and the same nodes reached.
-use mathlib.Core.Path.{◌≡◌, refl, ap, sym, ◌∙◌}
-use mathlib.Core.Bool.{Bool, true, false, ◌||◌}
-use mathlib.Core.Logic.{◌≢◌}
-use mathlib.Core.List.{List, [], ◌∷◌, ◌++◌, append_assoc, map-append, Memᴰ}
-use Prim.Native.Nat.{ℕ, suc, ◌-◌, ◌≤◌, ◌<◌}
-use native.Mathlib.Omega.{arith}
-use lib.Dec.{eqb, ltb}
-use lib.ListN.{length, take, drop}
-use lib.Seq.{take_at, drop_at}
-use borrow.Author.Tests.{eqb-false, lt-ltb}
+use Rattle.std.proofs.Common.{◌≡◌, ℕ, suc, ◌-◌, ◌<◌, ◌≤◌, Bool, true, false, ◌||◌, eqb, ltb, ◌≢◌, List, [], ◌∷◌, ◌++◌, length, take, drop}
+use Rattle.std.proofs.Common.{sym, refl, ap, ◌∙◌, append_assoc, arith, take_at, drop_at, lt-ltb}
+use mathlib.Core.List.{map-append, Memᴰ}
+use borrow.Author.Tests.{eqb-false}
 use Rattle.model.specs.Table.{in_range}
 use Rattle.model.specs.Slots.{Slot, slot, View}
 use Rattle.model.specs.Search.{below, within}
@@ -48,21 +42,32 @@ never : (bs : List ℕ) (a : ℕ) (after : List ℕ) → [] ≡ bs ++ a ∷ afte
 never [] a after e = let z : ◌≡◌ {A = ℕ} 0 1 = cc in omega arith
 never (x ∷ bs) a after e = let z : ◌≡◌ {A = ℕ} 0 1 = cc in omega arith
 
-around : (left : ℕ) (ss : List Slot) (before : List ℕ) (a : ℕ) (after : List ℕ) → left ∷ pointers ss ≡ before ++ a ∷ after → Around left ss before a after
-around left ss [] a after e = let u = cons-same left a (pointers ss) after e in record { low = []; high = ss; shape = refl; lower = ap (λ (n : ℕ). n ∷ []) u.0; upper = u.1 }
+around : (left : ℕ) (ss : List Slot) (before : List ℕ) (a : ℕ) (after : List ℕ) → left ∷ pointers ss ≡ before ++ a ∷ after
+    → Around left ss before a after
+around left ss [] a after e = let u =
+    cons-same left a (pointers ss) after e in record { low = []; high = ss; shape = refl; lower = ap (λ (n : ℕ). n ∷ []) u.0; upper = u.1 }
 around left [] (x ∷ bs) a after e = absurd (never bs a after (cons-same left x [] (bs ++ a ∷ after) e).1)
 around left (s ∷ ss) (x ∷ bs) a after e =
     let u = cons-same left x (s.pointer ∷ pointers ss) (bs ++ a ∷ after) e in
     let r = around s.pointer ss bs a after u.1 in
-    record { low = s ∷ r.low; high = r.high; shape = ap (λ (l : List Slot). s ∷ l) r.shape; lower = ap (λ (n : ℕ). n ∷ s.pointer ∷ pointers r.low) u.0 ∙ ap (λ (l : List ℕ). x ∷ l) r.lower; upper = r.upper }
+    record {
+      low = s ∷ r.low;
+      high = r.high;
+      shape = ap (λ (l : List Slot). s ∷ l) r.shape;
+      lower = ap (λ (n : ℕ). n ∷ s.pointer ∷ pointers r.low) u.0 ∙ ap (λ (l : List ℕ). x ∷ l) r.lower;
+      upper = r.upper;
+    }
 
 module _ (v : View) where
   -- the last of them is a, and its fence is below k: so are their keys
-  low-below : (k left : ℕ) (ss : List Slot) (before : List ℕ) (a : ℕ) → left ∷ pointers ss ≡ before ++ a ∷ [] → Each (λ (s : Slot). (v.node s.pointer).fence ≡ s.key) ss → rising (suc (v.node left).fence) ss ≡ true
+  low-below : (k left : ℕ) (ss : List Slot) (before : List ℕ) (a : ℕ) → left ∷ pointers ss ≡ before ++ a ∷ []
+      → Each (λ (s : Slot). (v.node s.pointer).fence ≡ s.key) ss → rising (suc (v.node left).fence) ss ≡ true
       → (v.node a).fence < k → ((v.node left).fence < k) × Each (λ (s : Slot). s.key < k) ss
-  low-below k left [] [] a e n r h = let q = (cons-same left a [] [] e).0 in (let y : (v.node left).fence ≡ (v.node a).fence = ap (fence_of v) q in omega arith, tt)
+  low-below k left [] [] a e n r h = let q =
+      (cons-same left a [] [] e).0 in (let y : (v.node left).fence ≡ (v.node a).fence = ap (fence_of v) q in omega arith, tt)
   low-below k left [] (x ∷ bs) a e n r h = absurd (never bs a [] (cons-same left x [] (bs ++ a ∷ []) e).1)
-  low-below k left (s ∷ ss) [] a e n r h = absurd (never [] s.pointer (pointers ss) (sym (cons-same left a (s.pointer ∷ pointers ss) [] e).1))
+  low-below k left (s ∷ ss) [] a e n r h =
+      absurd (never [] s.pointer (pointers ss) (sym (cons-same left a (s.pointer ∷ pointers ss) [] e).1))
   low-below k left (s ∷ ss) (x ∷ bs) a e n r h =
       let u = (rising-cons (suc (v.node left).fence) s ss).0 r in
       let q = n.0 in
@@ -139,7 +144,8 @@ module _ (v : View) (p a : ℕ) (l : HasLeft v (missing_in p a false)) where
   keeps-p = each-mem (λ (n : ℕ). kept v n ≡ (v.node n).shown) l.left.1 lacks.member
 
   parts : Around (v.node p).left (v.node p).shown before a after
-  parts = around (v.node p).left (v.node p).shown before a after (ap (λ (ks : List Slot). (v.node p).left ∷ pointers ks) (sym keeps-p) ∙ gap.shape)
+  parts = around (v.node p).left (v.node p).shown before a after
+      (ap (λ (ks : List Slot). (v.node p).left ∷ pointers ks) (sym keeps-p) ∙ gap.shape)
 
   abbrev low : List Slot
   low = parts.low
@@ -151,7 +157,8 @@ module _ (v : View) (p a : ℕ) (l : HasLeft v (missing_in p a false)) where
   kept-p = keeps-p ∙ parts.shape
 
   names : Each (λ (s : Slot). (v.node s.pointer).fence ≡ s.key) low × Each (λ (s : Slot). (v.node s.pointer).fence ≡ s.key) high
-  names = Each-split (λ (s : Slot). (v.node s.pointer).fence ≡ s.key) low high (rw kept-p at (Each-map (Named v d) (λ (s : Slot). (v.node s.pointer).fence ≡ s.key) (kept v p) (λ s u. u.fence) in-p.names))
+  names = Each-split (λ (s : Slot). (v.node s.pointer).fence ≡ s.key) low high
+      (rw kept-p at (Each-map (Named v d) (λ (s : Slot). (v.node s.pointer).fence ≡ s.key) (kept v p) (λ s u. u.fence) in-p.names))
 
   rise : Apart (suc (v.node p).fence) low high
   rise = rising-apart (suc (v.node p).fence) low high (rw kept-p at in-p.rise)
@@ -174,12 +181,16 @@ module _ (v : View) (p a : ℕ) (l : HasLeft v (missing_in p a false)) where
       let w : (v.node (v.node B).sibling).fence ≡ s.key = ap (fence_of v) sb ∙ n in
       omega arith
 
-  upper-from : (ss : List Slot) (from : ℕ) → pointers ss ≡ after → Each (λ (s : Slot). (v.node s.pointer).fence ≡ s.key) ss → rising from ss ≡ true → Each (λ (s : Slot). (v.node B).fence < s.key) ss
+  upper-from : (ss : List Slot) (from : ℕ) → pointers ss ≡ after → Each (λ (s : Slot). (v.node s.pointer).fence ≡ s.key) ss → rising from ss
+      ≡ true → Each (λ (s : Slot). (v.node B).fence < s.key) ss
   upper-from [] from q n r = tt
   upper-from (s ∷ ss) from q n r =
       let y = head-above s ss q n.0 in
-      let u = (rising-cons from s ss).0 r in
-      (y, Each-map (λ (t : Slot). suc s.key ≤ t.key) (λ (t : Slot). (v.node B).fence < t.key) ss (λ t h. omega arith) (rising-from (suc s.key) ss u.1))
+      let u = (rising-cons from s ss).0 r in (
+        y,
+        Each-map (λ (t : Slot). suc s.key ≤ t.key) (λ (t : Slot). (v.node B).fence < t.key) ss (λ t h. omega arith)
+            (rising-from (suc s.key) ss u.1),
+      )
 
   upper : Each (λ (s : Slot). (v.node B).fence < s.key) high
   upper = upper-from high (suc (v.node p).fence) parts.upper names.1 rise.right
@@ -203,9 +214,12 @@ module _ (v : View) (p a : ℕ) (l : HasLeft v (missing_in p a false)) where
   unfolding below
   within-B = go (eqb (v.node p).sibling 0) refl
     where
-      go : (b : Bool) → eqb (v.node p).sibling 0 ≡ b → eqb (v.node p).sibling 0 || ltb (v.node B).fence (v.node (v.node p).sibling).fence ≡ true
+      go : (b : Bool) → eqb (v.node p).sibling 0 ≡ b
+          → eqb (v.node p).sibling 0 || ltb (v.node B).fence (v.node (v.node p).sibling).fence ≡ true
       go true c = rw c
-      go false c = or-right (eqb (v.node p).sibling 0) _ (lt-ltb (v.node B).fence (v.node (v.node p).sibling).fence (below-sibling high parts.upper upper within-p.1 (eqb-false (v.node p).sibling 0 c)))
+      go false c = or-right (eqb (v.node p).sibling 0) _
+          (lt-ltb (v.node B).fence (v.node (v.node p).sibling).fence
+          (below-sibling high parts.upper upper within-p.1 (eqb-false (v.node p).sibling 0 c)))
 
   -- ---- with the slot
 
@@ -213,7 +227,9 @@ module _ (v : View) (p a : ℕ) (l : HasLeft v (missing_in p a false)) where
   ys = low ++ slot (v.node B).fence B ∷ high
 
   place : place_of (v.node B).fence (v.node p).shown ≡ length low
-  place = ap (place_of (v.node B).fence) parts.shape ∙ place-between (v.node B).fence low high lower.1 (Each-map (λ (s : Slot). (v.node B).fence < s.key) (λ (s : Slot). (v.node B).fence ≤ s.key) high (λ s h. omega arith) upper)
+  place = ap (place_of (v.node B).fence) parts.shape
+      ∙ place-between (v.node B).fence low high lower.1
+      (Each-map (λ (s : Slot). (v.node B).fence < s.key) (λ (s : Slot). (v.node B).fence ≤ s.key) high (λ s h. omega arith) upper)
 
   slots : slot_in (v.node B).fence B (v.node p).shown ≡ ys
   slots =
@@ -230,7 +246,8 @@ module _ (v : View) (p a : ℕ) (l : HasLeft v (missing_in p a false)) where
       let y = lower.0 in
       let z = in-p.left_fence in
       rising-join (suc (v.node p).fence) (v.node B).fence low (slot (v.node B).fence B ∷ high) (omega arith) rise.left lower.1
-      ((rising-cons (v.node B).fence (slot (v.node B).fence B) high).1 (omega arith, rising-raise (suc (v.node p).fence) (suc (v.node B).fence) high rise.right upper))
+      ((rising-cons (v.node B).fence (slot (v.node B).fence B) high).1
+      (omega arith, rising-raise (suc (v.node p).fence) (suc (v.node B).fence) high rise.right upper))
 
   within-new : Each (λ (s : Slot). within v p s.key ≡ true) ys
   within-new = Each-append (λ (s : Slot). within v p s.key ≡ true) low (slot (v.node B).fence B ∷ high) within-p.0 (within-B, within-p.1)
@@ -240,12 +257,15 @@ module _ (v : View) (p a : ℕ) (l : HasLeft v (missing_in p a false)) where
   kept-new = rw (update-at (shown_of v) p ys) (filter-all (λ (s : Slot). within v p s.key) ys within-new)
 
   named-new : (v.node p).left ∷ pointers (kept v' p) ≡ before ++ a ∷ B ∷ after
-  named-new = ap (λ (ks : List Slot). (v.node p).left ∷ pointers ks) kept-new ∙ ap (λ (r : List ℕ). (v.node p).left ∷ r) (map-append (λ (s : Slot). s.pointer) low (slot (v.node B).fence B ∷ high))
-      ∙ ap (λ (r : List ℕ). r ++ B ∷ pointers high) parts.lower ∙ append_assoc before (a ∷ []) (B ∷ pointers high) ∙ ap (λ (r : List ℕ). before ++ a ∷ B ∷ r) parts.upper
+  named-new = ap (λ (ks : List Slot). (v.node p).left ∷ pointers ks) kept-new
+      ∙ ap (λ (r : List ℕ). (v.node p).left ∷ r) (map-append (λ (s : Slot). s.pointer) low (slot (v.node B).fence B ∷ high))
+      ∙ ap (λ (r : List ℕ). r ++ B ∷ pointers high) parts.lower ∙ append_assoc before (a ∷ []) (B ∷ pointers high)
+      ∙ ap (λ (r : List ℕ). before ++ a ∷ B ∷ r) parts.upper
 
   children-new : children v' p ≡ before ++ a ∷ B ∷ after
   unfolding fill_row first_child
-  children-new = children-of v' p lacks.here.0 ∙ ap (λ (r : List ℕ). fill_row v r e) named-new ∙ (fill-whole v (before ++ a ∷ B ∷ after) e).1 chain
+  children-new = children-of v' p lacks.here.0 ∙ ap (λ (r : List ℕ). fill_row v r e) named-new
+      ∙ (fill-whole v (before ++ a ∷ B ∷ after) e).1 chain
 
   same : children v' p ≡ children v p
   same = children-new ∙ sym row
@@ -263,7 +283,8 @@ module _ (v : View) (p a : ℕ) (l : HasLeft v (missing_in p a false)) where
       record {
         keys = record {
           rise = rw kept-new rise-new;
-          first = ap (come_first (λ (s : Slot). within v p s.key)) (update-at (shown_of v) p ys) ∙ each-first (λ (s : Slot). within v p s.key) ys within-new;
+          first = ap (come_first (λ (s : Slot). within v p s.key)) (update-at (shown_of v) p ys)
+              ∙ each-first (λ (s : Slot). within v p s.key) ys within-new;
         };
         left = k.left;
         slots = rw kept-new sn;
@@ -273,27 +294,40 @@ module _ (v : View) (p a : ℕ) (l : HasLeft v (missing_in p a false)) where
 
   good-new : Good v p → Good v' p
   unfolding sibling_ok in_range
-  good-new g = let u = good-parts v p g in good-inner v' d p p-level u.0 u.1 ((inner-iff v' p).1 (inner-new ((inner-iff v p).0 (inner-ok v d p g p-level))))
+  good-new g = let u =
+      good-parts v p g in good-inner v' d p p-level u.0 u.1 ((inner-iff v' p).1 (inner-new ((inner-iff v p).0 (inner-ok v d p g p-level))))
 
   -- every node but p was finished
   nearly : Each (λ (n : ℕ). n ≢ p → NothingUnfinished v n) (reached v)
-  nearly = Each-map (λ (n : ℕ). ((v.node n).hidden ≡ 0) × ((kept v n ≡ (v.node n).shown) × (n ≢ p → (v.node n).level ≢ 0 → children v n ≡ named v n))) (λ (n : ℕ). n ≢ p → NothingUnfinished v n) (reached v)
-      (λ n h z. record { shows = h.0; keeps = h.1.0; names = h.1.1 z }) (each-both _ _ (reached v) l.left.0 (each-both _ _ (reached v) l.left.1 lacks.others))
+  nearly = Each-map (λ (n : ℕ). ((v.node n).hidden ≡ 0)
+      × ((kept v n ≡ (v.node n).shown) × (n ≢ p → (v.node n).level ≢ 0 → children v n ≡ named v n)))
+      (λ (n : ℕ). n ≢ p → NothingUnfinished v n) (reached v)
+      (λ n h z. record { shows = h.0; keeps = h.1.0; names = h.1.1 z })
+      (each-both _ _ (reached v) l.left.0 (each-both _ _ (reached v) l.left.1 lacks.others))
 
   finished-p : NothingUnfinished v' p
-  finished-p = record { shows = each-mem (λ (n : ℕ). (v.node n).hidden ≡ 0) l.left.0 lacks.member; keeps = kept-new ∙ sym (update-at (shown_of v) p ys); names = λ z. children-new ∙ sym named-new }
+  finished-p = record {
+    shows = each-mem (λ (n : ℕ). (v.node n).hidden ≡ 0) l.left.0 lacks.member;
+    keeps = kept-new
+        ∙ sym (update-at (shown_of v) p ys);
+    names = λ z. children-new ∙ sym named-new;
+  }
 
   finished-new : (n : ℕ) → (n ≢ p → NothingUnfinished v n) → NothingUnfinished v' n
-  finished-new = at-or-off (λ (n : ℕ). (n ≢ p → NothingUnfinished v n) → NothingUnfinished v' n) p (λ h. finished-p) (λ n z h. finished-own v _ n (update-off (shown_of v) p ys n z) (h z))
+  finished-new = at-or-off (λ (n : ℕ). (n ≢ p → NothingUnfinished v n) → NothingUnfinished v' n) p (λ h. finished-p)
+      (λ n z h. finished-own v _ n (update-off (shown_of v) p ys n z) (h z))
 
   not-leaf : Each (λ (n : ℕ). n ≢ p) (leaves v)
-  not-leaf = Each-map (At v 0) (λ (n : ℕ). n ≢ p) (leaves v) (λ n t q. let y : (v.node n).level ≡ (v.node p).level = ap (level_of v) q in let z = p-level in omega (arith, t.level)) (level-leaves v o).row.at
+  not-leaf = Each-map (At v 0) (λ (n : ℕ). n ≢ p) (leaves v)
+      (λ n t q. let y : (v.node n).level ≡ (v.node p).level = ap (level_of v) q in let z = p-level in omega (arith, t.level))
+      (level-leaves v o).row.at
 
   new-reached : reached v' ≡ reached v
   new-reached = shown-reached v p ys same
 
   new-mapping : mapping v' ≡ mapping v
-  new-mapping = shown-mapping v p ys same (Each-map (λ (n : ℕ). n ≢ p) (λ (n : ℕ). n ≡ p → kept v' p ≡ kept v p) (leaves v) (λ n z q. absurd (z q)) not-leaf)
+  new-mapping = shown-mapping v p ys same
+      (Each-map (λ (n : ℕ). n ≢ p) (λ (n : ℕ). n ≡ p → kept v' p ≡ kept v p) (leaves v) (λ n z q. absurd (z q)) not-leaf)
 
   new-settled : HasLeft v' nothing
   new-settled = finished-left v' (shown-orderly v p ys same o good-new (rw new-mapping o.recordings))
@@ -307,5 +341,8 @@ module _ (v : View) (p a : ℕ) (l : HasLeft v (missing_in p a false)) where
       ap (elem B) n ∙ ((distinct-middle B (before ++ a ∷ []) after).0 (rw q at (distinct-children v p o lacks.member))).0
 
 -- nothing is left unfinished, with the same map and the same nodes reached
-pub attach-settles : (v : View) (p a : ℕ) → HasLeft v (missing_in p a false) → Keeps v (with_shown v p (slot_in (v.node (v.node a).sibling).fence (v.node a).sibling (v.node p).shown)) nothing
-attach-settles v p a l = rw (slots v p a l) (record { left = new-settled v p a l; mapping = new-mapping v p a l; reached = new-reached v p a l; room = λ r. r })
+pub attach-settles :
+    (v : View) (p a : ℕ) → HasLeft v (missing_in p a false)
+    → Keeps v (with_shown v p (slot_in (v.node (v.node a).sibling).fence (v.node a).sibling (v.node p).shown)) nothing
+attach-settles v p a l =
+    rw (slots v p a l) (record { left = new-settled v p a l; mapping = new-mapping v p a l; reached = new-reached v p a l; room = λ r. r })

@@ -1,9 +1,5 @@
 -- A root that is an empty leaf: no other node is reached, the map is empty, and nothing is unfinished.
-use mathlib.Core.Path.{◌≡◌, ap, sym, ◌∙◌}
-use mathlib.Core.Bool.{true}
-use mathlib.Core.List.{[], ◌∷◌}
-use Prim.Native.Nat.{ℕ}
-use native.Mathlib.Omega.{arith}
+use Rattle.std.proofs.Common.{◌≡◌, ℕ, true, [], ◌∷◌, sym, ap, ◌∙◌, arith}
 use Rattle.model.specs.Table.{MARK, in_range}
 use Rattle.model.specs.Slots.{Slot, View}
 use Rattle.model.specs.Search.{within}
@@ -18,6 +14,7 @@ module _ (v : View) (leaf : v.node v.root ≡ new_node MARK 0 0 0 []) (range : i
   abbrev r : ℕ
   r = v.root
 
+  -- no node but an empty root leaf is reached
   pub root-alone : reached v ≡ v.root ∷ []
   unfolding reached_from
   root-alone = ap (λ (d : ℕ). reached_from v d (r ∷ [])) (level-eq leaf)
@@ -30,17 +27,20 @@ module _ (v : View) (leaf : v.node v.root ≡ new_node MARK 0 0 0 []) (range : i
   unfolding kept filter
   kept-none = ap (filter (λ (s : Slot). within v r s.key)) (shown-eq leaf)
 
+  -- the map of an empty root leaf has no pair
   pub map-none : mapping v ≡ []
   unfolding mapping flat
   map-none = ap (flat (kept v)) leaf-alone ∙ rw kept-none
 
   good : Good v r
   unfolding sibling_ok rising come_first
-  good = good-leaf v r (level-eq leaf) (clear-eq leaf) (rw (sibling-eq leaf)) ((leaf-iff v r).1 (record { left = left-eq leaf; keys = record { rise = rw kept-none; first = rw (shown-eq leaf) } }))
+  good = good-leaf v r (level-eq leaf) (clear-eq leaf) (rw (sibling-eq leaf))
+      ((leaf-iff v r).1 (record { left = left-eq leaf; keys = record { rise = rw kept-none; first = rw (shown-eq leaf) } }))
 
   finished : NothingUnfinished v r
   finished = record { shows = hidden-eq leaf; keeps = kept-none ∙ sym (shown-eq leaf); names = λ z. absurd (z (level-eq leaf)) }
 
+  -- a tree that is an empty root leaf is orderly and has nothing left over
   pub empty-left : HasLeft v nothing
   unfolding distinct elem all recordings_ok
   empty-left = finished-left v

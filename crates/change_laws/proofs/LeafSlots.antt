@@ -1,11 +1,7 @@
--- Other slots in one leaf of a settled view: a pair put in at its place enters the map, a pair taken out leaves it, another class changes it.
-use mathlib.Core.Path.{◌≡◌, ap, sym, subst, ◌∙◌}
-use mathlib.Core.Bool.{true, false}
-use mathlib.Core.Logic.{◌≢◌}
-use mathlib.Core.List.{List, ◌∷◌, ◌++◌, append_assoc, map}
+-- Other slots in one leaf of a settled view: a pair put in at its place enters the map, a pair taken out leaves it, another class changes
+-- it.
+use Rattle.std.proofs.Common.{◌≡◌, ℕ, suc, ◌<◌, true, false, ◌≢◌, List, ◌∷◌, ◌++◌, map, length, drop, sym, ap, ◌∙◌, subst, append_assoc}
 use mathlib.Core.Option.{some}
-use Prim.Native.Nat.{ℕ, suc, ◌<◌}
-use lib.ListN.{length, drop}
 use Rattle.model.specs.Table.{in_range}
 use Rattle.model.specs.Slots.{Slot, slot, View, recording_of, with_class, recording, class_ok}
 use Rattle.model.specs.Search.{below, within, first_with}
@@ -27,9 +23,11 @@ use Rattle.tree_laws.proofs.Leftovers.{NothingUnfinished, settled-iff}
 use Rattle.tree_laws.proofs.PlaceOf.{Place, place-of, InsertPlace, place-absent, DeletePlace, place-found}
 use Rattle.change_laws.proofs.Lists.{Off}
 use Rattle.change_laws.proofs.Updates.{update-at, update-off, with_shown}
-use Rattle.change_laws.proofs.Parts.{leaf-iff, good-parts, good-leaf, no-children, HasLeft, all-finished, finished-left, settled-left, Settles}
+use Rattle.change_laws.proofs.Parts.{leaf-iff, good-parts, good-leaf, no-children, HasLeft, all-finished, finished-left, settled-left}
+use Rattle.change_laws.proofs.Parts.{Settles}
 use Rattle.change_laws.proofs.Shown.{kept-own, finished-own, each-first, shown-reached, shown-leaves, shown-orderly}
-use Rattle.change_laws.proofs.Pairs.{has-key-iff, has-key-found, has-recording, recordings-append, slot_in, slot_out, slot_to, enter-at, leave-at, rising-other, each-other, reclass-at}
+use Rattle.change_laws.proofs.Pairs.{has-key-iff, has-key-found, has-recording, recordings-append, slot_in, slot_out, slot_to, enter-at}
+use Rattle.change_laws.proofs.Pairs.{leave-at, rising-other, each-other, reclass-at}
 
 -- ---- the slots ss in leaf x
 
@@ -58,7 +56,8 @@ module _ (v : View) (x : ℕ) (ss : List Slot) (leaf : (v.node x).level ≡ 0) (
         left = k.left;
         keys = record {
           rise = rw kept-at f.rise;
-          first = ap (come_first (λ (s : Slot). within v x s.key)) (update-at (shown_of v) x ss) ∙ each-first (λ (s : Slot). within v x s.key) ss f.within;
+          first = ap (come_first (λ (s : Slot). within v x s.key)) (update-at (shown_of v) x ss)
+              ∙ each-first (λ (s : Slot). within v x s.key) ss f.within;
         };
       }))
 
@@ -76,10 +75,12 @@ module _ (v : View) (x : ℕ) (ss : List Slot) (leaf : (v.node x).level ≡ 0) (
   leaf-reached = shown-reached v x ss same
 
   off : (l : List ℕ) → Off x l → flat (kept v') l ≡ flat (kept v) l
-  off l z = flat-each (kept v') (kept v) l (Each-map (λ (n : ℕ). n ≢ x) (λ (n : ℕ). kept v' n ≡ kept v n) l (λ n y. kept-own v _ n (update-off (shown_of v) x ss n y)) z)
+  off l z = flat-each (kept v') (kept v) l
+      (Each-map (λ (n : ℕ). n ≢ x) (λ (n : ℕ). kept v' n ≡ kept v n) l (λ n y. kept-own v _ n (update-off (shown_of v) x ss n y)) z)
 
   -- the map: what the leaves before x hold, the slots ss, what those after it hold
-  pub leaf-mapping : (left right : List ℕ) → leaves v ≡ left ++ x ∷ right → Off x left → Off x right → mapping (with_shown v x ss) ≡ flat (kept v) left ++ (ss ++ flat (kept v) right)
+  pub leaf-mapping : (left right : List ℕ) → leaves v ≡ left ++ x ∷ right → Off x left → Off x right → mapping (with_shown v x ss)
+      ≡ flat (kept v) left ++ (ss ++ flat (kept v) right)
   unfolding mapping flat
   leaf-mapping left right e a b =
       ap (flat (kept v')) (shown-leaves v x ss same ∙ e) ∙ flat-append (kept v') left (x ∷ right) ∙ rw (off left a, off right b, kept-at)
@@ -102,7 +103,8 @@ module _ (v : View) (k : ℕ) (l : HasLeft v nothing) where
   abbrev after : List Slot
   after = flat (kept v) place.right
 
-  module _ (y : ℕ) (no-key : has_key k (mapping v) ≡ false) (no-recording : has_recording (recording_of y) (mapping v) ≡ false) (ok : pair_ok (slot k y) ≡ true) where
+  module _ (y : ℕ) (no-key : has_key k (mapping v) ≡ false) (no-recording : has_recording (recording_of y) (mapping v) ≡ false)
+      (ok : pair_ok (slot k y) ≡ true) where
     insert : InsertPlace v k y ss place.left place.right
     insert = place-absent v k y ss l.orderly place ((has-key-iff k (mapping v)).0 no-key)
 
@@ -113,14 +115,16 @@ module _ (v : View) (k : ℕ) (l : HasLeft v nothing) where
     entered = with_shown v x (slot_in k y ss)
 
     entered-map : mapping entered ≡ before ++ slot k y ∷ (upper k ss ++ after)
-    entered-map = leaf-mapping v x (slot_in k y ss) place.level fits place.left place.right place.row place.not-left place.not-right ∙ simp append_assoc
+    entered-map = leaf-mapping v x (slot_in k y ss) place.level fits place.left place.right place.row place.not-left
+        place.not-right ∙ simp append_assoc
 
     -- its recording is none of the map's
     fresh : elem (recording_of y) (map recording (before ++ (upper k ss ++ after))) ≡ false
     fresh = rw place.map at (sym (has-recording (recording_of y) (mapping v)) ∙ no-recording)
 
     recordings : recordings_ok (mapping entered) ≡ true
-    recordings = rw entered-map ((recordings-middle (slot k y) before (upper k ss ++ after)).1 (ok, fresh, rw place.map at l.orderly.recordings))
+    recordings = rw entered-map
+        ((recordings-middle (slot k y) before (upper k ss ++ after)).1 (ok, fresh, rw place.map at l.orderly.recordings))
 
     entered-settles : Settles v entered (enter k y (mapping v))
     entered-settles = record {
@@ -134,7 +138,10 @@ module _ (v : View) (k : ℕ) (l : HasLeft v nothing) where
     fresh-here =
         let u = (recordings-append (recording_of y) before (upper k ss ++ after)).0 fresh in
         ap (λ (m : List Slot). elem (recording_of y) (map recording m)) (lower-upper k ss)
-        ∙ (recordings-append (recording_of y) (lower k ss) (upper k ss)).1 (((recordings-append (recording_of y) (flat (kept v) place.left) (lower k ss)).0 u.0).1, ((recordings-append (recording_of y) (upper k ss) after).0 u.1).0)
+        ∙ (recordings-append (recording_of y) (lower k ss) (upper k ss)).1 (
+          ((recordings-append (recording_of y) (flat (kept v) place.left) (lower k ss)).0 u.0).1,
+          ((recordings-append (recording_of y) (upper k ss) after).0 u.1).0,
+        )
 
   module _ (y : ℕ) (found : first_with k (mapping v) ≡ some (slot k y)) where
     abbrev rest : List Slot
@@ -155,11 +162,13 @@ module _ (v : View) (k : ℕ) (l : HasLeft v nothing) where
     less = with_shown v x (slot_out k ss)
 
     less-map : mapping less ≡ before ++ (rest ++ after)
-    less-map = leaf-mapping v x (slot_out k ss) place.level fits-less place.left place.right place.row place.not-left place.not-right ∙ simp append_assoc
+    less-map = leaf-mapping v x (slot_out k ss) place.level fits-less place.left place.right place.row place.not-left
+        place.not-right ∙ simp append_assoc
 
     less-settles : Settles v less (leave k (mapping v))
     less-settles = record {
-      left = leaf-settled v x (slot_out k ss) place.level fits-less l (rw less-map ((recordings-middle (slot k y) before (rest ++ after)).0 right-recordings).2);
+      left = leaf-settled v x (slot_out k ss) place.level fits-less l
+          (rw less-map ((recordings-middle (slot k y) before (rest ++ after)).0 right-recordings).2);
       mapping = less-map ∙ sym (ap (leave k) delete.map ∙ leave-at k y before (rest ++ after) place.low delete.above);
       reached = leaf-reached v x (slot_out k ss) place.level fits-less;
     }
@@ -173,13 +182,17 @@ module _ (v : View) (k : ℕ) (l : HasLeft v nothing) where
       fits-class : Fits v x (slot_to k z ss)
       fits-class =
           let own : Fits v x (slot_to k y ss) = subst (Fits v x) delete.slot-at (record { rise = place.rises; within = place.within }) in
-          record { rise = sym (rising-other (v.node x).fence k y z (lower k ss) rest) ∙ own.rise; within = each-other (λ (n : ℕ). within v x n ≡ true) k y z (lower k ss) rest own.within }
+          record {
+            rise = sym (rising-other (v.node x).fence k y z (lower k ss) rest) ∙ own.rise;
+            within = each-other (λ (n : ℕ). within v x n ≡ true) k y z (lower k ss) rest own.within;
+          }
 
       abbrev classed : View
       classed = with_shown v x (slot_to k z ss)
 
       classed-map : mapping classed ≡ before ++ slot k z ∷ (rest ++ after)
-      classed-map = leaf-mapping v x (slot_to k z ss) place.level fits-class place.left place.right place.row place.not-left place.not-right ∙ simp append_assoc
+      classed-map = leaf-mapping v x (slot_to k z ss) place.level fits-class place.left place.right place.row place.not-left
+          place.not-right ∙ simp append_assoc
 
       classed-recordings : recordings_ok (before ++ slot k z ∷ (rest ++ after)) ≡ true
       classed-recordings =
@@ -200,7 +213,8 @@ module _ (v : View) (k : ℕ) (l : HasLeft v nothing) where
       leaf-right : recordings_ok (slot_to k z ss) ≡ true
       leaf-right =
           rw (kept-at v x (slot_to k z ss) place.level fits-class) at
-          (leaf-recordings classed x classed-settles.left.orderly (rw (shown-leaves v x (slot_to k z ss) (same v x (slot_to k z ss) place.level fits-class)) (leaf-mem v k l.orderly)))
+          (leaf-recordings classed x classed-settles.left.orderly
+          (rw (shown-leaves v x (slot_to k z ss) (same v x (slot_to k z ss) place.level fits-class)) (leaf-mem v k l.orderly)))
 
 -- neither k nor the recording of the pointer y is in the map, and y has a recording and a class that there are
 pub record NewPair (v : View) (k y : ℕ) : Type 0 where
@@ -208,28 +222,40 @@ pub record NewPair (v : View) (k y : ℕ) : Type 0 where
   pub no-recording : has_recording (recording_of y) (mapping v) ≡ false
   pub ok : pair_ok (slot k y) ≡ true
 
-pub enter-leaf : (v : View) (k y : ℕ) → HasLeft v nothing → NewPair v k y → Settles v (with_shown v (leaf_for v k) (slot_in k y (v.node (leaf_for v k)).shown)) (enter k y (mapping v))
+-- a new pair put in at its place in its leaf leaves the tree settled, its map with the pair more
+pub enter-leaf : (v : View) (k y : ℕ) → HasLeft v nothing → NewPair v k y
+    → Settles v (with_shown v (leaf_for v k) (slot_in k y (v.node (leaf_for v k)).shown)) (enter k y (mapping v))
 enter-leaf v k y l e = entered-settles v k l y e.no-key e.no-recording e.ok
 
 -- y is no pointer of the leaf
 pub enter-fresh : (v : View) (k y : ℕ) → HasLeft v nothing → NewPair v k y → elem y (pointers (v.node (leaf_for v k)).shown) ≡ false
 enter-fresh v k y l e = recordings-off y (v.node (leaf_for v k)).shown (fresh-here v k l y e.no-key e.no-recording e.ok)
 
-pub leave-leaf : (v : View) (k : ℕ) → HasLeft v nothing → has_key k (mapping v) ≡ true → Settles v (with_shown v (leaf_for v k) (slot_out k (v.node (leaf_for v k)).shown)) (leave k (mapping v))
+-- a key's slot taken out of its leaf leaves the tree settled, its map without the key
+pub leave-leaf : (v : View) (k : ℕ) → HasLeft v nothing → has_key k (mapping v) ≡ true
+    → Settles v (with_shown v (leaf_for v k) (slot_out k (v.node (leaf_for v k)).shown)) (leave k (mapping v))
 leave-leaf v k l h = let u = has-key-found k (mapping v) h in less-settles v k l u.0 u.1
 
 -- the leaf shows k at its place
-pub leave-place : (v : View) (k : ℕ) → HasLeft v nothing → has_key k (mapping v) ≡ true → place_of k (v.node (leaf_for v k)).shown < length (v.node (leaf_for v k)).shown
+pub leave-place : (v : View) (k : ℕ) → HasLeft v nothing → has_key k (mapping v) ≡ true
+    → place_of k (v.node (leaf_for v k)).shown < length (v.node (leaf_for v k)).shown
 leave-place v k l h = let u = has-key-found k (mapping v) h in (delete v k l u.0 u.1).in-use
 
 -- the pointer y of k in its leaf, and the leaf with another class for it
 pub record ClassPlace (v : View) (k c : ℕ) : Type 0 where
   pub pointer : ℕ
   pub shown : (v.node (leaf_for v k)).shown ≡ slot_to k pointer (v.node (leaf_for v k)).shown
-  pub settles : Settles v (with_shown v (leaf_for v k) (slot_to k (with_class pointer c) (v.node (leaf_for v k)).shown)) (reclass k c (mapping v))
+  pub settles : Settles v (with_shown v (leaf_for v k) (slot_to k (with_class pointer c) (v.node (leaf_for v k)).shown))
+      (reclass k c (mapping v))
   pub right : recordings_ok (slot_to k (with_class pointer c) (v.node (leaf_for v k)).shown) ≡ true
 
+-- the leaf of a key that the map has shows its slot, and another class set there leaves the tree settled
 pub class-leaf : (v : View) (k c : ℕ) → HasLeft v nothing → has_key k (mapping v) ≡ true → class_ok c ≡ true → ClassPlace v k c
 class-leaf v k c l h ok =
     let u = has-key-found k (mapping v) h in
-    record { pointer = u.0; shown = (delete v k l u.0 u.1).slot-at; settles = classed-settles v k l u.0 u.1 c ok; right = leaf-right v k l u.0 u.1 c ok }
+    record {
+      pointer = u.0;
+      shown = (delete v k l u.0 u.1).slot-at;
+      settles = classed-settles v k l u.0 u.1 c ok;
+      right = leaf-right v k l u.0 u.1 c ok;
+    }

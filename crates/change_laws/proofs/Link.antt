@@ -1,19 +1,16 @@
 -- Linking B, which holds A's upper slots, as A's sibling: the map stays, B follows A among the reached nodes, and it lacks its slot.
-use mathlib.Core.Path.{◌≡◌, refl, ap, sym, ◌∙◌}
-use mathlib.Core.Bool.{Bool, true, false, ◌&&◌, ◌||◌}
-use mathlib.Core.Logic.{◌≢◌}
-use mathlib.Core.List.{List, [], ◌∷◌, ◌++◌, map-append, Memᴰ}
-use Prim.Native.Nat.{ℕ, zero, suc, ◌≤◌, ◌<◌}
-use native.Mathlib.Omega.{arith}
-use lib.Dec.{eqb, ltb}
-use lib.ListN.{length, length-append}
+use Rattle.std.proofs.Common.{◌≡◌, ℕ, zero, suc, ◌<◌, ◌≤◌, Bool, true, false, ◌&&◌, ◌||◌, eqb, ltb, ◌≢◌, List, [], ◌∷◌, ◌++◌, length, sym}
+use Rattle.std.proofs.Common.{refl, ap, ◌∙◌, arith, length-append}
+use mathlib.Core.List.{map-append, Memᴰ}
 use borrow.Author.Tests.{eqb-false}
 use Rattle.model.specs.Table.{MARK, in_range}
 use Rattle.model.specs.Slots.{Slot, NodeView, View, height}
 use Rattle.model.specs.Search.{below, within}
-use Rattle.model.specs.Reached.{filter, flat, pointers, kept, named, first_child, next_child, children, reached_from, leaves_from, reached, leaves, mapping}
+use Rattle.model.specs.Reached.{filter, flat, pointers, kept, named, first_child, next_child, children, reached_from, leaves_from, reached}
+use Rattle.model.specs.Reached.{leaves, mapping}
 use Rattle.model.specs.SoundTest.{all, elem, sibling_ok, rising, come_first, linked, slot_ok, nothing, missing_in, room}
-use Rattle.view_laws.proofs.NodeViews.{sibling_of, level_of, new_node, left-eq, sibling-eq, level-eq, fence-eq, shown-eq, hidden-eq, clear-eq}
+use Rattle.view_laws.proofs.NodeViews.{sibling_of, level_of, new_node, left-eq, sibling-eq, level-eq, fence-eq, shown-eq, hidden-eq}
+use Rattle.view_laws.proofs.NodeViews.{clear-eq}
 use Rattle.list_laws.proofs.Tools.{decode, and-iff, or-right, Each, Each-map, Each-split, all-append}
 use Rattle.list_laws.proofs.Members.{elem-none, each-mem, mem-each, each-both, elem-append, elem-false, flat-each}
 use Rattle.list_laws.proofs.Filters.{filter-all}
@@ -27,10 +24,12 @@ use Rattle.tree_laws.proofs.Leftovers.{NothingUnfinished, NoneHidden, TrailingOn
 use Rattle.change_laws.proofs.Lists.{Off}
 use Rattle.change_laws.proofs.Updates.{update-at, update-off, with_sibling}
 use Rattle.change_laws.proofs.Splice.{splice, splice-nil, splice-none, splice-each, splice-flat, mem-splice, distinct-splice}
-use Rattle.change_laws.proofs.Parts.{KeysOk, LeafOk, leaf-iff, InnerOk, inner-iff, good-parts, good-leaf, good-inner, no-children, names-linked, HasLeft, all-finished, same-room}
+use Rattle.change_laws.proofs.Parts.{KeysOk, LeafOk, leaf-iff, InnerOk, inner-iff, good-parts, good-leaf, good-inner, no-children}
+use Rattle.change_laws.proofs.Parts.{names-linked, HasLeft, all-finished, same-room}
 use Rattle.change_laws.proofs.Shown.{each-first, first-part}
 use Rattle.change_laws.proofs.Parents.{sibling-reached, Parent}
-use Rattle.change_laws.proofs.Siblings.{linked-split, kept-off, next-off, named-off, linked-off, linked-gap, children-off, Halves, halves, children-both, Moves, reached-splice, leaves-splice, good-off, sib-at, inner-at}
+use Rattle.change_laws.proofs.Siblings.{linked-split, kept-off, next-off, named-off, linked-off, linked-gap, children-off, Halves, halves}
+use Rattle.change_laws.proofs.Siblings.{children-both, Moves, reached-splice, leaves-splice, good-off, sib-at, inner-at}
 
 -- The upper part of a node on level d that shows s and then high: a leaf's shows s and high, an inner one has s's pointer as left and
 -- shows high.
@@ -38,6 +37,7 @@ abbrev pub upper_left : (d : ℕ) → Slot → ℕ
 upper_left zero s = MARK
 upper_left (suc d) s = s.pointer
 
+-- what the upper part shows, from s on: a leaf's s and high, an inner node's high alone
 abbrev pub upper_slots : (d : ℕ) → Slot → List Slot → List Slot
 upper_slots zero s high = s ∷ high
 upper_slots (suc d) s high = high
@@ -91,7 +91,8 @@ module _ (v : View) (A B : ℕ) (low : List Slot) (s : Slot) (high : List Slot) 
   rise-A = rising-apart (v.node A).fence low (s ∷ high) (rw kept-A at (kept-rises v A good-A))
 
   lower : Each (λ (t : Slot). t.key < s.key) low
-  lower = Each-map (λ (t : Slot). Each (λ (u : Slot). t.key < u.key) (s ∷ high)) (λ (t : Slot). t.key < s.key) low (λ t h. h.0) rise-A.between
+  lower = Each-map (λ (t : Slot). Each (λ (u : Slot). t.key < u.key) (s ∷ high)) (λ (t : Slot). t.key < s.key) low
+      (λ t h. h.0) rise-A.between
 
   high-rise : rising (suc s.key) high ≡ true
   high-rise = ((rising-cons (v.node A).fence s high).0 rise-A.right).1
@@ -118,22 +119,28 @@ module _ (v : View) (A B : ℕ) (low : List Slot) (s : Slot) (high : List Slot) 
 
   kept-B : (ss : List Slot) → (v.node B).shown ≡ ss → Each (λ (t : Slot). within v A t.key ≡ true) ss → kept v B ≡ ss
   unfolding kept
-  kept-B ss e h = ap (λ (n : ℕ). filter (λ (t : Slot). below v n t.key) (v.node B).shown) b-sibling ∙ ap (filter (λ (t : Slot). within v A t.key)) e ∙ filter-all (λ (t : Slot). within v A t.key) ss h
+  kept-B ss e h = ap (λ (n : ℕ). filter (λ (t : Slot). below v n t.key) (v.node B).shown) b-sibling
+      ∙ ap (filter (λ (t : Slot). within v A t.key)) e ∙ filter-all (λ (t : Slot). within v A t.key) ss h
 
-  first-B : (ss : List Slot) → (v.node B).shown ≡ ss → Each (λ (t : Slot). within v A t.key ≡ true) ss → come_first (λ (t : Slot). within v B t.key) (v.node B).shown ≡ true
-  first-B ss e h = ap (λ (n : ℕ). come_first (λ (t : Slot). below v n t.key) (v.node B).shown) b-sibling ∙ ap (come_first (λ (t : Slot). within v A t.key)) e ∙ each-first (λ (t : Slot). within v A t.key) ss h
+  first-B : (ss : List Slot) → (v.node B).shown ≡ ss → Each (λ (t : Slot). within v A t.key ≡ true) ss
+      → come_first (λ (t : Slot). within v B t.key) (v.node B).shown ≡ true
+  first-B ss e h = ap (λ (n : ℕ). come_first (λ (t : Slot). below v n t.key) (v.node B).shown) b-sibling
+      ∙ ap (come_first (λ (t : Slot). within v A t.key)) e ∙ each-first (λ (t : Slot). within v A t.key) ss h
 
   sib-B : sibling_ok v B ≡ true
   unfolding sibling_ok
   sib-B = rw b-sibling (go (eqb (v.node A).sibling 0) refl)
     where
       go : (b : Bool) → eqb (v.node A).sibling 0 ≡ b
-          → eqb (v.node A).sibling 0 || (in_range v.nodes (v.node A).sibling && (eqb (v.node (v.node A).sibling).level (v.node B).level && ltb (v.node B).fence (v.node (v.node A).sibling).fence)) ≡ true
+          → eqb (v.node A).sibling 0 ||
+          (in_range v.nodes (v.node A).sibling &&
+          (eqb (v.node (v.node A).sibling).level (v.node B).level && ltb (v.node B).fence (v.node (v.node A).sibling).fence)) ≡ true
       go true e = rw e
       go false e =
           let z = eqb-false (v.node A).sibling 0 e in
           let f = sib-facts v A good-A z in
-          let q : (v.node B).fence < (v.node (v.node A).sibling).fence = rw b-fence (below-true v s.key (v.node A).sibling z within-upper.0) in
+          let q : (v.node B).fence < (v.node (v.node A).sibling).fence =
+          rw b-fence (below-true v s.key (v.node A).sibling z within-upper.0) in
           or-right (eqb (v.node A).sibling 0) _ (simp decode (f.range, (f.level ∙ sym b-level, q)))
 
   module _ (d : ℕ) (e : (v.node A).level ≡ suc d) where
@@ -153,11 +160,13 @@ module _ (v : View) (A B : ℕ) (low : List Slot) (s : Slot) (high : List Slot) 
     kept-upper = kept-A ∙ ap (λ (ks : List Slot). low ++ s ∷ ks) (sym kept-high)
 
     named-A : named v A ≡ ((v.node A).left ∷ pointers low) ++ named v B
-    named-A = ap (λ (ks : List Slot). (v.node A).left ∷ pointers ks) kept-upper ∙ ap (λ (r : List ℕ). (v.node A).left ∷ r) (map-append (λ (t : Slot). t.pointer) low (s ∷ kept v B))
+    named-A = ap (λ (ks : List Slot). (v.node A).left ∷ pointers ks) kept-upper
+        ∙ ap (λ (r : List ℕ). (v.node A).left ∷ r) (map-append (λ (t : Slot). t.pointer) low (s ∷ kept v B))
         ∙ ap (λ (m : ℕ). ((v.node A).left ∷ pointers low) ++ m ∷ pointers (kept v B)) (sym of-B.0)
 
     chain-B : linked v (named v B) (next_child v B) ≡ true
-    chain-B = ap (λ (n : ℕ). linked v (named v B) (first_child v n)) b-sibling ∙ (linked-split v ((v.node A).left ∷ pointers low) (v.node B).left (pointers (kept v B)) (next_child v A) (rw named-A at chain-A)).1
+    chain-B = ap (λ (n : ℕ). linked v (named v B) (first_child v n)) b-sibling
+        ∙ (linked-split v ((v.node A).left ∷ pointers low) (v.node B).left (pointers (kept v B)) (next_child v A) (rw named-A at chain-A)).1
 
     children-B : children v B ≡ named v B
     children-B = children-inner v d B (b-level ∙ e) ∙ (fill-whole v (named v B) (next_child v B)).1 chain-B
@@ -183,7 +192,10 @@ module _ (v : View) (A B : ℕ) (low : List Slot) (s : Slot) (high : List Slot) 
   leaf-B : (v.node A).level ≡ 0 → LeafOk v B
   leaf-B e =
       let u = b-part 0 e in
-      record { left = u.0; keys = record { rise = rw (kept-B (s ∷ high) u.1 within-upper, b-fence) upper-rise; first = first-B (s ∷ high) u.1 within-upper } }
+      record {
+        left = u.0;
+        keys = record { rise = rw (kept-B (s ∷ high) u.1 within-upper, b-fence) upper-rise; first = first-B (s ∷ high) u.1 within-upper };
+      }
 
   good-B : Good v B
   good-B = by-level v (λ (n : ℕ). Good v B) A
@@ -192,7 +204,8 @@ module _ (v : View) (A B : ℕ) (low : List Slot) (s : Slot) (high : List Slot) 
 
   fin-B : NothingUnfinished v B
   fin-B = by-level v (λ (n : ℕ). NothingUnfinished v B) A
-      (λ e. let u = b-part 0 e in record { shows = hidden-eq p.b-node; keeps = kept-B (s ∷ high) u.1 within-upper ∙ sym u.1; names = λ z. absurd (z (b-level ∙ e)) })
+      (λ e. let u = b-part 0 e in record
+      { shows = hidden-eq p.b-node; keeps = kept-B (s ∷ high) u.1 within-upper ∙ sym u.1; names = λ z. absurd (z (b-level ∙ e)) })
       (λ d e. record { shows = hidden-eq p.b-node; keeps = kept-high d e ∙ sym (of-B d e).1; names = λ z. children-B d e })
 
   -- ---- A, linked to B
@@ -200,10 +213,13 @@ module _ (v : View) (A B : ℕ) (low : List Slot) (s : Slot) (high : List Slot) 
   abbrev v' : View
   v' = with_sibling v A B
 
-  low-part : (filter (λ (t : Slot). within v' A t.key) (low ++ s ∷ high) ≡ low) × (come_first (λ (t : Slot). within v' A t.key) (low ++ s ∷ high) ≡ true)
+  low-part : (filter (λ (t : Slot). within v' A t.key) (low ++ s ∷ high) ≡ low)
+      × (come_first (λ (t : Slot). within v' A t.key) (low ++ s ∷ high) ≡ true)
   low-part = rw (update-at (sibling_of v) A B) (first-part (λ (t : Slot). below v' B t.key) low (s ∷ high)
-      (Each-map (λ (t : Slot). t.key < s.key) (λ (t : Slot). below v' B t.key ≡ true) low (λ t h. below-high v' t.key B (rw b-fence h)) lower)
-      (Each-map (λ (t : Slot). s.key ≤ t.key) (λ (t : Slot). below v' B t.key ≡ false) (s ∷ high) (λ t h. below-low v' t.key B not-B (rw b-fence h)) (rising-from s.key (s ∷ high) upper-rise)))
+      (Each-map (λ (t : Slot). t.key < s.key) (λ (t : Slot). below v' B t.key ≡ true) low
+      (λ t h. below-high v' t.key B (rw b-fence h)) lower)
+      (Each-map (λ (t : Slot). s.key ≤ t.key) (λ (t : Slot). below v' B t.key ≡ false) (s ∷ high)
+      (λ t h. below-low v' t.key B not-B (rw b-fence h)) (rising-from s.key (s ∷ high) upper-rise)))
 
   kept-low : kept v' A ≡ low
   unfolding kept
@@ -223,10 +239,13 @@ module _ (v : View) (A B : ℕ) (low : List Slot) (s : Slot) (high : List Slot) 
       let u = good-parts v A good-A in
       let si = sib-at v A B p.b-range b-sibling other apart b-level above in
       by-level v (λ (n : ℕ). Good v' A) A
-      (λ e. let k = (leaf-iff v A).0 (leaf-ok v A good-A e) in good-leaf v' A e u.0 si ((leaf-iff v' A).1 (record { left = k.left; keys = keys-A (v.node A).fence k.keys })))
+      (λ e. let k = (leaf-iff v A).0 (leaf-ok v A good-A e) in good-leaf v' A e u.0 si
+      ((leaf-iff v' A).1 (record { left = k.left; keys = keys-A (v.node A).fence k.keys })))
       (λ d e.
       let k = inner-A d e in
-      good-inner v' d A e u.0 si ((inner-iff v' A).1 (inner-at v A B p.b-range b-sibling other apart low s high (parts d e) kept-A (keys-A (suc (v.node A).fence) k.keys) kept-low k)))
+      good-inner v' d A e u.0 si
+      ((inner-iff v' A).1 (inner-at v A B p.b-range b-sibling other apart low s high (parts d e) kept-A
+      (keys-A (suc (v.node A).fence) k.keys) kept-low k)))
 
   good-linked : (n : ℕ) → n ≢ A → NothingUnfinished v n → Good v n → Good v' n
   good-linked n z f g = good-off v A B p.b-range b-sibling other apart n z (λ y. (names-linked v n y).0 (f.names y)) g
@@ -260,19 +279,33 @@ module _ (v : View) (A B : ℕ) (low : List Slot) (s : Slot) (high : List Slot) 
 
   link-mapping : mapping v' ≡ mapping v
   unfolding mapping
-  link-mapping = ap (flat (kept v')) link-leaves ∙ by-level v (λ (n : ℕ). flat (kept v') (splice A B (leaves v)) ≡ flat (kept v) (leaves v)) A
+  link-mapping = ap (flat (kept v')) link-leaves
+      ∙ by-level v (λ (n : ℕ). flat (kept v') (splice A B (leaves v)) ≡ flat (kept v) (leaves v)) A
       (λ e.
       let u = b-part 0 e in
-      splice-flat A B (kept v') (kept v) (ap (λ (x : List Slot). x ++ kept v' B) kept-low ∙ ap (λ (x : List Slot). low ++ x) (kept-off v A B B other ∙ kept-B (s ∷ high) u.1 within-upper) ∙ sym kept-A)
+      splice-flat A B (kept v') (kept v)
+      (ap (λ (x : List Slot). x ++ kept v' B) kept-low
+      ∙ ap (λ (x : List Slot). low ++ x) (kept-off v A B B other ∙ kept-B (s ∷ high) u.1 within-upper) ∙ sym kept-A)
       (leaves v) (mem-each _ (leaves v) (λ n m z. kept-off v A B n z)))
       (λ d e.
-      let no : Off A (leaves v) = Each-map (At v 0) (λ (n : ℕ). n ≢ A) (leaves v) (λ n a q. let y : (v.node n).level ≡ (v.node A).level = ap (level_of v) q in omega (arith, a.level)) (level-leaves v o).row.at in
-      ap (flat (kept v')) (splice-none A B (leaves v) no) ∙ flat-each (kept v') (kept v) (leaves v) (Each-map (λ (n : ℕ). n ≢ A) (λ (n : ℕ). kept v' n ≡ kept v n) (leaves v) (λ n z. kept-off v A B n z) no))
+      let no : Off A (leaves v) =
+      Each-map (At v 0) (λ (n : ℕ). n ≢ A) (leaves v)
+      (λ n a q. let y : (v.node n).level ≡ (v.node A).level = ap (level_of v) q in omega (arith, a.level)) (level-leaves v o).row.at in
+      ap (flat (kept v')) (splice-none A B (leaves v) no)
+      ∙ flat-each (kept v') (kept v) (leaves v)
+      (Each-map (λ (n : ℕ). n ≢ A) (λ (n : ℕ). kept v' n ≡ kept v n) (leaves v) (λ n z. kept-off v A B n z) no))
 
   link-orderly : Orderly v'
   link-orderly = record {
-    top = record { range = o.top.range; level = o.top.level; fence = o.top.fence; sibling = update-off (sibling_of v) A B v.root p.not-root ∙ o.top.sibling };
-    good = rw link-reached (splice-each A B (λ (n : ℕ). Good v n × NothingUnfinished v n) (Good v') (λ n z g. good-linked n z g.1 g.0) (λ g. (linked-A, good-linked B other fin-B good-B)) (reached v) facts);
+    top = record {
+      range = o.top.range;
+      level = o.top.level;
+      fence = o.top.fence;
+      sibling = update-off (sibling_of v) A B v.root p.not-root ∙ o.top.sibling;
+    };
+    good = rw link-reached
+        (splice-each A B (λ (n : ℕ). Good v n × NothingUnfinished v n) (Good v') (λ n z g. good-linked n z g.1 g.0)
+        (λ g. (linked-A, good-linked B other fin-B good-B)) (reached v) facts);
     once = rw link-reached (distinct-splice A B (reached v) o.once p.b-fresh);
     recordings = rw link-mapping o.recordings;
   }
@@ -280,14 +313,18 @@ module _ (v : View) (A B : ℕ) (low : List Slot) (s : Slot) (high : List Slot) 
   -- ---- what it leaves unfinished
 
   none-hidden : NoneHidden v'
-  none-hidden = rw link-reached (splice-each A B (NothingUnfinished v) (λ (n : ℕ). (v.node n).hidden ≡ 0) (λ n z f. f.shows) (λ f. (f.shows, hidden-eq p.b-node)) (reached v) (all-finished v l))
+  none-hidden = rw link-reached
+      (splice-each A B (NothingUnfinished v) (λ (n : ℕ). (v.node n).hidden ≡ 0) (λ n z f. f.shows) (λ f. (f.shows, hidden-eq p.b-node))
+      (reached v) (all-finished v l))
 
   -- A still shows s and high
   trailing : TrailingOnly v' A
   trailing = rw link-reached (record {
     member = mem-splice A B A (reached v) p.a-reached;
-    here = λ e. (let y : length low ≡ length (low ++ s ∷ high) = ap length (sym kept-low ∙ e ∙ p.a-shows) in omega (arith, simp length-append at y));
-    others = splice-each A B (NothingUnfinished v) (λ (n : ℕ). n ≢ A → kept v' n ≡ (v.node n).shown) (λ n z f y. kept-off v A B n y ∙ f.keeps)
+    here = λ e. (let y : length low
+        ≡ length (low ++ s ∷ high) = ap length (sym kept-low ∙ e ∙ p.a-shows) in omega (arith, simp length-append at y));
+    others = splice-each A B (NothingUnfinished v) (λ (n : ℕ). n ≢ A → kept v' n ≡ (v.node n).shown)
+        (λ n z f y. kept-off v A B n y ∙ f.keeps)
         (λ f. ((λ y. absurd (y refl)), (λ y. kept-off v A B B y ∙ fin-B.keeps))) (reached v) (all-finished v l);
   })
 
@@ -299,34 +336,47 @@ module _ (v : View) (A B : ℕ) (low : List Slot) (s : Slot) (high : List Slot) 
     -- another node names its children, if A is none of them
     names-off : (n : ℕ) → n ≢ A → NothingUnfinished v n → elem A (children v n) ≡ false → (v.node n).level ≢ 0 → children v' n ≡ named v' n
     names-off n z f m y =
-        (names-linked v' n y).1 (rw (named-off v A B n z, next-off v A B n z) (linked-off v A B (named v n) (next_child v n) ((names-linked v n y).0 (f.names y)) ((elem-false A (named v n)).0 (ap (elem A) (sym (f.names y)) ∙ m))))
+        (names-linked v' n y).1
+        (rw (named-off v A B n z, next-off v A B n z)
+        (linked-off v A B (named v n) (next_child v n) ((names-linked v n y).0 (f.names y))
+        ((elem-false A (named v n)).0 (ap (elem A) (sym (f.names y)) ∙ m))))
 
     half-off : (d : ℕ) → (v.node A).level ≡ suc d → (elem A ((v.node A).left ∷ pointers low) ≡ false) × (elem A (named v B) ≡ false)
-    half-off d e = (elem-append A _ _).0 (ap (elem A) (sym (children-A d e)) ∙ each-mem (λ (n : ℕ). n ≢ q → elem A (children v n) ≡ false) w.only p.a-reached (λ y. not-A (sym y)))
+    half-off d e = (elem-append A _ _).0
+        (ap (elem A) (sym (children-A d e))
+        ∙ each-mem (λ (n : ℕ). n ≢ q → elem A (children v n) ≡ false) w.only p.a-reached (λ y. not-A (sym y)))
 
     names-A : (v.node A).level ≢ 0 → children v' A ≡ named v' A
     names-A y = by-level v (λ (n : ℕ). children v' A ≡ named v' A) A (λ e. absurd (y e))
         (λ d e.
         let h = parts d e in
-        (names-linked v' A y).1 (ap (λ (ks : List Slot). linked v' ((v.node A).left ∷ pointers ks) (next_child v' A)) kept-low ∙ ap (linked v' ((v.node A).left ∷ pointers low)) h.next
-        ∙ linked-off v A B ((v.node A).left ∷ pointers low) (v.node B).left h.lower-chain ((elem-false A ((v.node A).left ∷ pointers low)).0 (half-off d e).0)))
+        (names-linked v' A y).1
+        (ap (λ (ks : List Slot). linked v' ((v.node A).left ∷ pointers ks) (next_child v' A)) kept-low
+        ∙ ap (linked v' ((v.node A).left ∷ pointers low)) h.next
+        ∙ linked-off v A B ((v.node A).left ∷ pointers low) (v.node B).left h.lower-chain
+        ((elem-false A ((v.node A).left ∷ pointers low)).0 (half-off d e).0)))
 
     names-B : (v.node B).level ≢ 0 → children v' B ≡ named v' B
-    names-B y = by-level v (λ (n : ℕ). children v' B ≡ named v' B) A (λ e. absurd (y (b-level ∙ e))) (λ d e. names-off B other fin-B (ap (elem A) (children-B d e) ∙ (half-off d e).1) y)
+    names-B y = by-level v (λ (n : ℕ). children v' B ≡ named v' B) A (λ e. absurd (y (b-level ∙ e)))
+        (λ d e. names-off B other fin-B (ap (elem A) (children-B d e) ∙ (half-off d e).1) y)
 
     gap : Gap v' A (named v' q) (next_child v' q)
     gap =
         let f = each-mem (NothingUnfinished v) (all-finished v l) w.p-reached in
         let z : (v.node q).level ≢ 0 = λ y. omega (arith, w.p-level) in
         let n : named v q ≡ w.once.before ++ A ∷ w.once.after = sym (f.names z) ∙ w.once.shape in
-        rw (named-off v A B q not-A, next-off v A B q not-A, n) (linked-gap v A B w.once.before w.once.after (next_child v q) apart (rw n at ((names-linked v q z).0 (f.names z))) w.once.not-before w.once.not-after)
+        rw (named-off v A B q not-A, next-off v A B q not-A, n)
+        (linked-gap v A B w.once.before w.once.after (next_child v q) apart (rw n at ((names-linked v q z).0 (f.names z)))
+        w.once.not-before w.once.not-after)
 
     missing : MissingOnly v' q A
     missing = rw link-reached (record {
       member = mem-splice A B q (reached v) w.p-reached;
       here = ((λ y. omega (arith, w.p-level)), gap);
-      others = splice-each A B (λ (n : ℕ). NothingUnfinished v n × (n ≢ q → elem A (children v n) ≡ false)) (λ (n : ℕ). n ≢ q → (v.node n).level ≢ 0 → children v' n ≡ named v' n)
-          (λ n z h y. names-off n z h.0 (h.1 y)) (λ h. ((λ y. names-A), (λ y. names-B))) (reached v) (each-both (NothingUnfinished v) _ (reached v) (all-finished v l) w.only);
+      others = splice-each A B (λ (n : ℕ). NothingUnfinished v n × (n ≢ q → elem A (children v n) ≡ false))
+          (λ (n : ℕ). n ≢ q → (v.node n).level ≢ 0 → children v' n ≡ named v' n)
+          (λ n z h y. names-off n z h.0 (h.1 y)) (λ h. ((λ y. names-A), (λ y. names-B))) (reached v)
+          (each-both (NothingUnfinished v) _ (reached v) (all-finished v l) w.only);
     })
 
 -- what linking does: B follows A among the reached nodes, and lacks its slot in A's parent q
@@ -336,14 +386,20 @@ pub record Linked (v v' : View) (A B q : ℕ) : Type 0 where
   pub reached : reached v' ≡ splice A B (reached v)
   pub room : room v q ≡ true → room v' q ≡ true
 
-pub link : (v : View) (A B : ℕ) (low : List Slot) (s : Slot) (high : List Slot) (q : ℕ) → HasLeft v nothing → Splits v A B low s high → Parent v A q → Linked v (with_sibling v A B) A B q
+-- B, which has A's upper part, linked as A's sibling keeps the map and leaves q's slot for B and the cut of A to do
+pub link : (v : View) (A B : ℕ) (low : List Slot) (s : Slot) (high : List Slot) (q : ℕ) → HasLeft v nothing → Splits v A B low s high
+    → Parent v A q → Linked v (with_sibling v A B) A B q
 link v A B low s high q l p w = record {
-  left = record { orderly = link-orderly v A B low s high l p; left = (none-hidden v A B low s high l p, trailing v A B low s high l p, missing v A B low s high l p q w) };
+  left = record {
+    orderly = link-orderly v A B low s high l p;
+    left = (none-hidden v A B low s high l p, trailing v A B low s high l p, missing v A B low s high l p q w);
+  };
   mapping = link-mapping v A B low s high l p;
   reached = link-reached v A B low s high l p;
   room = same-room v (with_sibling v A B) q refl;
 }
 
 -- A then keeps low
-pub link-kept : (v : View) (A B : ℕ) (low : List Slot) (s : Slot) (high : List Slot) → HasLeft v nothing → Splits v A B low s high → kept (with_sibling v A B) A ≡ low
+pub link-kept : (v : View) (A B : ℕ) (low : List Slot) (s : Slot) (high : List Slot) → HasLeft v nothing → Splits v A B low s high
+    → kept (with_sibling v A B) A ≡ low
 link-kept v A B low s high l p = kept-low v A B low s high l p

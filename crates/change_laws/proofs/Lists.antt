@@ -1,7 +1,5 @@
 -- Lists of node numbers that one does not stand in; the laws of list_laws on where one stands.
-use mathlib.Core.Logic.{◌≢◌}
-use mathlib.Core.List.{List}
-use Prim.Native.Nat.{ℕ}
+use Rattle.std.proofs.Common.{ℕ, ◌≢◌, List}
 use Rattle.list_laws.proofs.Tools.{Each}
 pub use Rattle.list_laws.proofs.Tools.{at-or-off}
 pub use Rattle.list_laws.proofs.Members.{mem-here, elem-cons, flat-each}

@@ -1,13 +1,12 @@
 -- A new root above the old one: settled, with the same map.
-use mathlib.Core.Path.{◌≡◌, refl, ap, sym, ◌∙◌}
-use mathlib.Core.Bool.{true, false}
-use mathlib.Core.List.{List, [], ◌∷◌, append-nil}
-use Prim.Native.Nat.{ℕ, suc, ◌≤◌}
+use Rattle.std.proofs.Common.{◌≡◌, ℕ, suc, ◌≤◌, true, false, List, [], ◌∷◌, sym, refl, ap, ◌∙◌, append-nil}
 use Rattle.model.specs.Table.{in_range}
 use Rattle.model.specs.Slots.{Slot, View, height}
 use Rattle.model.specs.Search.{below}
-use Rattle.model.specs.Reached.{filter, flat, pointers, kept, named, first_child, next_child, fill_row, children, reached_from, leaves_from, reached, mapping}
-use Rattle.model.specs.SoundTest.{all, elem, sibling_ok, rising, come_first, keys_ok, linked, child_ok, slot_ok, leaf_ok, inner_ok, node_ok, nothing}
+use Rattle.model.specs.Reached.{filter, flat, pointers, kept, named, first_child, next_child, fill_row, children, reached_from, leaves_from}
+use Rattle.model.specs.Reached.{reached, mapping}
+use Rattle.model.specs.SoundTest.{all, elem, sibling_ok, rising, come_first, keys_ok, linked, child_ok, slot_ok, leaf_ok, inner_ok, node_ok}
+use Rattle.model.specs.SoundTest.{nothing}
 use Rattle.view_laws.proofs.NodeViews.{new_node, left-eq, sibling-eq, level-eq, fence-eq, shown-eq, hidden-eq, clear-eq}
 use Rattle.list_laws.proofs.Tools.{decode, and-iff, Each-map}
 use Rattle.list_laws.proofs.Distinct.{distinct-cons}
@@ -37,7 +36,8 @@ reached-root : (v : View) (r d : ℕ) (ns : List ℕ) → reached_from (with_roo
 unfolding children kept fill_row below first_child reached_from
 reached-root v r d ns = refl
 
-pairs-root : (v : View) (r d : ℕ) (ns : List ℕ) → flat (kept (with_root v r)) (leaves_from (with_root v r) d ns) ≡ flat (kept v) (leaves_from v d ns)
+pairs-root : (v : View) (r d : ℕ) (ns : List ℕ) → flat (kept (with_root v r)) (leaves_from (with_root v r) d ns)
+    ≡ flat (kept v) (leaves_from v d ns)
 unfolding children kept fill_row below first_child leaves_from
 pairs-root v r d ns = refl
 
@@ -91,12 +91,14 @@ module _ (v : View) (r : ℕ) (l : HasLeft v nothing) (c : AboveRoot v r) where
   kids = append-nil (children v r) ∙ only-child
 
   root-reached : reached (with_root v r) ≡ r ∷ reached v
-  root-reached = ap (λ (d : ℕ). reached_from (with_root v r) d (r ∷ [])) (level-eq c.node) ∙ reached-root v r (suc (height v)) (r ∷ []) ∙ unfold reached_from in ap (λ (ns : List ℕ). r ∷ reached_from v (height v) ns) kids
+  root-reached = ap (λ (d : ℕ). reached_from (with_root v r) d (r ∷ [])) (level-eq c.node) ∙ reached-root v r (suc (height v)) (r ∷ [])
+      ∙ unfold reached_from in ap (λ (ns : List ℕ). r ∷ reached_from v (height v) ns) kids
 
   root-mapping : mapping (with_root v r) ≡ mapping v
   unfolding mapping
   root-mapping = ap (λ (d : ℕ). flat (kept (with_root v r)) (leaves_from (with_root v r) d (r ∷ []))) (level-eq c.node)
-      ∙ pairs-root v r (suc (height v)) (r ∷ []) ∙ unfold leaves_from in ap (λ (ns : List ℕ). flat (kept v) (leaves_from v (height v) ns)) kids
+      ∙ pairs-root v r (suc (height v)) (r ∷ [])
+      ∙ unfold leaves_from in ap (λ (ns : List ℕ). flat (kept v) (leaves_from v (height v) ns)) kids
 
   root-settled : HasLeft (with_root v r) nothing
   root-settled = finished-left (with_root v r)
@@ -106,7 +108,10 @@ module _ (v : View) (r : ℕ) (l : HasLeft v nothing) (c : AboveRoot v r) where
         once = rw root-reached ((distinct-cons r (reached v)).1 (c.fresh, o.once));
         recordings = rw root-mapping o.recordings;
       })
-      (rw root-reached (finished-root v r r finished-r, Each-map (NothingUnfinished v) (NothingUnfinished (with_root v r)) (reached v) (finished-root v r) (all-finished v l)))
+      (rw root-reached (
+        finished-root v r r finished-r,
+        Each-map (NothingUnfinished v) (NothingUnfinished (with_root v r)) (reached v) (finished-root v r) (all-finished v l),
+      ))
 
 -- what a new root does
 pub record Rooted (v v' : View) (r : ℕ) : Type 0 where
@@ -114,5 +119,6 @@ pub record Rooted (v v' : View) (r : ℕ) : Type 0 where
   pub mapping : mapping v' ≡ mapping v
   pub reached : reached v' ≡ r ∷ reached v
 
+-- a fresh node above the root, made the root, keeps the map, is reached besides, and leaves nothing over
 pub new-root : (v : View) (r : ℕ) → HasLeft v nothing → AboveRoot v r → Rooted v (with_root v r) r
 new-root v r l c = record { left = root-settled v r l c; mapping = root-mapping v r l c; reached = root-reached v r l c }

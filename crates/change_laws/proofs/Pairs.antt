@@ -1,14 +1,10 @@
 -- Keys and recordings in a list of pairs, and a pair that enters or leaves it at its key's place.
-use mathlib.Core.Path.{◌≡◌, refl, ap, ◌∙◌}
-use mathlib.Core.Bool.{Bool, true, false, ◌&&◌, false≢true}
-use mathlib.Core.Logic.{◌↔◌}
-use mathlib.Core.List.{List, [], ◌∷◌, ◌++◌, map-append, map}
+use Rattle.std.proofs.Common.{◌≡◌, ℕ, suc, ◌<◌, Bool, true, false, ◌&&◌, eqb, leb, ◌↔◌, List, [], ◌∷◌, ◌++◌, map, drop, refl, ap, ◌∙◌}
+use Rattle.std.proofs.Common.{arith, le-ltb, lt-ltb, eq-eqb, ne_eqb, eqb-true}
+use mathlib.Core.Bool.{false≢true}
+use mathlib.Core.List.{map-append}
 use mathlib.Core.Option.{some}
-use Prim.Native.Nat.{ℕ, suc, ◌<◌}
-use native.Mathlib.Omega.{arith}
-use lib.Dec.{leb, eqb}
-use lib.ListN.{drop}
-use borrow.Author.Tests.{eqb-true, eqb-false, eq-eqb, ne_eqb, lt-ltb, le-ltb}
+use borrow.Author.Tests.{eqb-false}
 use Rattle.model.specs.Slots.{Slot, slot, with_class, recording}
 use Rattle.model.specs.Search.{first_with}
 use Rattle.model.specs.SoundTest.{elem, rising}
@@ -21,6 +17,7 @@ use Rattle.tree_laws.proofs.Rising.{lower, upper}
 
 -- ---- the tests of keys and recordings
 
+-- pairs have no key k exactly if each key is another
 pub has-key-iff : (k : ℕ) (ss : List Slot) → (has_key k ss ≡ false) ↔ Misses k ss
 unfolding has_key
 has-key-iff k [] = (λ e. tt, λ u. refl)
@@ -29,21 +26,26 @@ has-key-iff k (s ∷ ss) = (
   λ m. (or-false-iff (eqb s.key k) (has_key k ss)).1 (ne_eqb s.key k m.0, (has-key-iff k ss).1 m.1),
 )
 
+-- if pairs have the key k, a first pair with it is found
 pub has-key-found : (k : ℕ) (ss : List Slot) → has_key k ss ≡ true → (x : ℕ) × (first_with k ss ≡ some (slot k x))
 unfolding has_key
 has-key-found k [] h = absurd (false≢true h)
 has-key-found k (s ∷ ss) h = go (eqb s.key k) refl (has-key-found k ss)
   where
-    go : (b : Bool) → eqb s.key k ≡ b → (has_key k ss ≡ true → (x : ℕ) × (first_with k ss ≡ some (slot k x))) → (x : ℕ) × (first_with k (s ∷ ss) ≡ some (slot k x))
+    go : (b : Bool) → eqb s.key k ≡ b → (has_key k ss ≡ true → (x : ℕ) × (first_with k ss ≡ some (slot k x))) → (x : ℕ)
+        × (first_with k (s ∷ ss) ≡ some (slot k x))
     go true c ih = let e = eqb-true s.key k c in (s.pointer, first-here k s ss e ∙ ap (λ (j : ℕ). some (slot j s.pointer)) e)
     go false c ih = let u = ih (rw (c, has_key) at h) in (u.0, first-past k s ss (eqb-false s.key k c) ∙ u.1)
 
+-- the test for a recording number is the test for it among the recording numbers of all pairs
 pub has-recording : (r : ℕ) (ss : List Slot) → has_recording r ss ≡ elem r (map recording ss)
 unfolding has_recording elem
 has-recording r [] = refl
 has-recording r (s ∷ ss) = rw (eqb-sym (recording s) r, has-recording r ss)
 
-pub recordings-append : (r : ℕ) (a b : List Slot) → (elem r (map recording (a ++ b)) ≡ false) ↔ ((elem r (map recording a) ≡ false) × (elem r (map recording b) ≡ false))
+pub recordings-append :
+    (r : ℕ) (a b : List Slot)
+    → (elem r (map recording (a ++ b)) ≡ false) ↔ ((elem r (map recording a) ≡ false) × (elem r (map recording b) ≡ false))
 recordings-append r a b = rw (map-append recording a b) (elem-append r (map recording a) (map recording b))
 
 -- ---- one slot more or less
@@ -61,7 +63,9 @@ slot_to k x ss = lower k ss ++ slot k x ∷ drop (suc (place_of k ss)) ss
 
 -- ---- the ledger
 
-pub enter-at : (k r : ℕ) (a b : List Slot) → Each (λ (s : Slot). s.key < k) a → Each (λ (s : Slot). k < s.key) b → enter k r (a ++ b) ≡ a ++ slot k r ∷ b
+-- a pair whose key is above all keys of a and below all of b enters between a and b
+pub enter-at : (k r : ℕ) (a b : List Slot) → Each (λ (s : Slot). s.key < k) a → Each (λ (s : Slot). k < s.key) b
+    → enter k r (a ++ b) ≡ a ++ slot k r ∷ b
 unfolding enter
 enter-at k r [] [] x y = refl
 enter-at k r [] (s ∷ b) x y = rw (lt-ltb k s.key y.0)
@@ -72,7 +76,8 @@ unfolding leave
 leave-above k [] y = refl
 leave-above k (s ∷ b) y = rw (ne_eqb s.key k (λ e. let q = y.0 in omega arith)) (ap (λ (l : List Slot). s ∷ l) (leave-above k b y.1))
 
-pub leave-at : (k r : ℕ) (a b : List Slot) → Each (λ (s : Slot). s.key < k) a → Each (λ (s : Slot). k < s.key) b → leave k (a ++ slot k r ∷ b) ≡ a ++ b
+pub leave-at : (k r : ℕ) (a b : List Slot) → Each (λ (s : Slot). s.key < k) a → Each (λ (s : Slot). k < s.key) b
+    → leave k (a ++ slot k r ∷ b) ≡ a ++ b
 unfolding leave
 leave-at k r [] b x y = rw (eq-eqb k k refl) (leave-above k b y)
 leave-at k r (s ∷ a) b x y = rw (ne_eqb s.key k (λ e. let q = x.0 in omega arith)) (ap (λ (l : List Slot). s ∷ l) (leave-at k r a b x.1 y))
@@ -84,7 +89,8 @@ unfolding rising
 rising-other low k x y [] b = refl
 rising-other low k x y (s ∷ a) b = ap (λ (c : Bool). leb low s.key && c) (rising-other (suc s.key) k x y a b)
 
-pub each-other : (P : ℕ → Type 0) (k x y : ℕ) (a b : List Slot) → Each (λ (s : Slot). P s.key) (a ++ slot k x ∷ b) → Each (λ (s : Slot). P s.key) (a ++ slot k y ∷ b)
+pub each-other : (P : ℕ → Type 0) (k x y : ℕ) (a b : List Slot) → Each (λ (s : Slot). P s.key) (a ++ slot k x ∷ b)
+    → Each (λ (s : Slot). P s.key) (a ++ slot k y ∷ b)
 each-other P k x y [] b h = h
 each-other P k x y (s ∷ a) b h = (h.0, each-other P k x y a b h.1)
 
@@ -97,5 +103,8 @@ pub reclass-at : (k c x : ℕ) (a b : List Slot) → Each (λ (s : Slot). s.key 
     → reclass k c (a ++ slot k x ∷ b) ≡ a ++ slot k (with_class x c) ∷ b
 unfolding reclass
 reclass-at k c x [] b l h =
-    rw (eq-eqb k k refl) (ap (λ (r : List Slot). slot k (with_class x c) ∷ r) (reclass-else k c b (Each-map (λ (s : Slot). k < s.key) (λ (s : Slot). s.key ≡ k → ⊥) b (λ s q e. omega arith) h)))
-reclass-at k c x (s ∷ a) b l h = rw (ne_eqb s.key k (λ e. let q = l.0 in omega arith)) (ap (λ (r : List Slot). s ∷ r) (reclass-at k c x a b l.1 h))
+    rw (eq-eqb k k refl)
+    (ap (λ (r : List Slot). slot k (with_class x c) ∷ r)
+    (reclass-else k c b (Each-map (λ (s : Slot). k < s.key) (λ (s : Slot). s.key ≡ k → ⊥) b (λ s q e. omega arith) h)))
+reclass-at k c x (s ∷ a) b l h =
+    rw (ne_eqb s.key k (λ e. let q = l.0 in omega arith)) (ap (λ (r : List Slot). s ∷ r) (reclass-at k c x a b l.1 h))

@@ -1,13 +1,8 @@
 -- Each reached node but the root has one parent; and so on a search path.
-use mathlib.Core.Path.{◌≡◌, refl, sym}
-use mathlib.Core.Bool.{Bool, true, false}
-use mathlib.Core.Logic.{◌≢◌, ⊎_elim}
+use Rattle.std.proofs.Common.{◌≡◌, ℕ, suc, ◌-◌, ◌<◌, Bool, true, false, eqb, ◌≢◌, get_or, sym, refl, ⊎_elim, eqb-true}
 use mathlib.Core.List.Memᴰ
 use mathlib.Core.List.{Memᴰ}
-use Prim.Native.Nat.{ℕ, suc, ◌-◌, ◌<◌}
-use lib.Dec.{eqb}
-use lib.ListN.{get_or}
-use borrow.Author.Tests.{eqb-true, eqb-false}
+use borrow.Author.Tests.{eqb-false}
 use Rattle.model.specs.Slots.{View, height}
 use Rattle.model.specs.Search.{path}
 use Rattle.model.specs.Reached.{flat, children, reached}
@@ -30,8 +25,15 @@ pub record Parent (v : View) (A p : ℕ) : Type 0 where
 module _ (v : View) (A : ℕ) (o : Orderly v) where
   from-children : Memᴰ A (flat (children v) (reached v)) → (p : ℕ) × Parent v A p
   from-children m =
-      let u = flat-one (children v) (reached v) A (children-once v o) m in
-      (u.it, record { p-reached = u.member; p-level = child-level v u.it A o u.member u.inside; once = once A (children v u.it) u.parted u.inside; only = u.only })
+      let u = flat-one (children v) (reached v) A (children-once v o) m in (
+        u.it,
+        record {
+          p-reached = u.member;
+          p-level = child-level v u.it A o u.member u.inside;
+          once = once A (children v u.it) u.parted u.inside;
+          only = u.only;
+        },
+      )
 
   -- a reached node but the root has one parent
   pub one-parent : Memᴰ A (reached v) → v.root ≢ A → (p : ℕ) × Parent v A p
@@ -48,8 +50,11 @@ module _ (v : View) (A : ℕ) (o : Orderly v) where
         where
           go : (b : Bool) → eqb q p ≡ b → q ≡ p
           go true e = eqb-true q p e
-          go false e = absurd ((elem-none A (children v p)).0 (each-mem (λ (n : ℕ). n ≢ q → elem A (children v n) ≡ false) w.only m (λ y. eqb-false q p e (sym y))) h)
+          go false e = absurd ((elem-none A (children v p)).0
+              (each-mem (λ (n : ℕ). n ≢ q → elem A (children v n) ≡ false) w.only m (λ y. eqb-false q p e (sym y))) h)
 
 -- the nodes that a search stands on, on one level and on the next
-pub path-parent : (v : View) (k d : ℕ) → Orderly v → d < height v → Parent v (get_or (path v k) (height v - d) 0) (get_or (path v k) (height v - suc d) 0)
-path-parent v k d o h = parent-is v _ o (get_or (path v k) (height v - suc d) 0) (path-stands v k (suc d) o h).reached (path-step v k d o h).child
+pub path-parent : (v : View) (k d : ℕ) → Orderly v → d < height v
+    → Parent v (get_or (path v k) (height v - d) 0) (get_or (path v k) (height v - suc d) 0)
+path-parent v k d o h =
+    parent-is v _ o (get_or (path v k) (height v - suc d) 0) (path-stands v k (suc d) o h).reached (path-step v k d o h).child

@@ -1,19 +1,12 @@
 -- A view by its parts: what a good node is, and orderly with a leftover; what a change keeps of them.
-use mathlib.Core.Path.{◌≡◌, ap, ◌∙◌}
-use mathlib.Core.Bool.{true}
-use mathlib.Core.Logic.{◌↔◌, ◌≢◌}
-use mathlib.Core.List.{List}
+use Rattle.std.proofs.Common.{◌≡◌, ℕ, suc, true, leb, ◌≢◌, ◌↔◌, List, length, ap, ◌∙◌, arith, eq-eqb, ne_eqb, eqb-true}
 use mathlib.Core.Option.{some}
-use Prim.Native.Nat.{ℕ, suc}
-use native.Mathlib.Omega.{arith}
-use lib.Dec.{leb}
-use lib.ListN.{length}
-use borrow.Author.Tests.{eqb-true, eq-eqb, ne_eqb}
 use Rattle.model.specs.Table.{MARK, in_range}
 use Rattle.model.specs.Slots.{Slot, View}
 use Rattle.model.specs.Search.{within}
 use Rattle.model.specs.Reached.{kept, named, next_child, children, reached, mapping}
-use Rattle.model.specs.SoundTest.{all, sibling_ok, rising, come_first, keys_ok, linked, child_ok, slot_ok, leaf_ok, inner_ok, node_ok, orderly, Leftover, nothing, leftover, room, has_room, settled_view, sound_view}
+use Rattle.model.specs.SoundTest.{all, sibling_ok, rising, come_first, keys_ok, linked, child_ok, slot_ok, leaf_ok, inner_ok, node_ok}
+use Rattle.model.specs.SoundTest.{orderly, Leftover, nothing, leftover, room, has_room, settled_view, sound_view}
 use Rattle.list_laws.proofs.Tools.{and-iff, Each, Each-map}
 use Rattle.list_laws.proofs.Members.{each-both}
 use Rattle.tree_laws.proofs.Rows.{Good}
@@ -25,15 +18,19 @@ pub use Rattle.tree_laws.proofs.Levels.{top-row}
 
 -- ---- a good node
 
+-- a good node is clear, and its sibling is as it must be
 pub good-parts : (v : View) (n : ℕ) → Good v n → ((v.node n).clear ≡ true) × (sibling_ok v n ≡ true)
 unfolding node_ok
 good-parts v n g = let u = simp and-iff at g in (u.0, u.1.0)
 
+-- a node of level 0 that is clear, its sibling right, is good if it passes the test of leaves
 pub good-leaf : (v : View) (n : ℕ) → (v.node n).level ≡ 0 → (v.node n).clear ≡ true → sibling_ok v n ≡ true → leaf_ok v n ≡ true → Good v n
 unfolding node_ok
 good-leaf v n e c s l = rw (eq-eqb (v.node n).level 0 e) (simp and-iff (c, (s, l)))
 
-pub good-inner : (v : View) (d n : ℕ) → (v.node n).level ≡ suc d → (v.node n).clear ≡ true → sibling_ok v n ≡ true → inner_ok v n ≡ true → Good v n
+-- a node above level 0 that is clear, its sibling right, is good if it passes the test of inner nodes
+pub good-inner : (v : View) (d n : ℕ) → (v.node n).level ≡ suc d → (v.node n).clear ≡ true → sibling_ok v n ≡ true
+    → inner_ok v n ≡ true → Good v n
 unfolding node_ok
 good-inner v d n e c s l = rw (ne_eqb (v.node n).level 0 (λ z. omega arith)) (simp and-iff (c, (s, l)))
 
@@ -49,6 +46,7 @@ pub record LeafOk (v : View) (n : ℕ) : Type 0 where
   pub left : (v.node n).left ≡ MARK
   pub keys : KeysOk v n (v.node n).fence
 
+-- a leaf passes its test exactly if its left is MARK and its keys are right
 pub leaf-iff : (v : View) (n : ℕ) → (leaf_ok v n ≡ true) ↔ LeafOk v n
 unfolding leaf_ok
 leaf-iff v n = (
@@ -63,10 +61,12 @@ pub record InnerOk (v : View) (n : ℕ) : Type 0 where
   pub range : all (in_range v.nodes) (children v n) ≡ true
   pub chain : linked v (children v n) (next_child v n) ≡ true
 
+-- an inner node passes its test exactly if its keys, its left, its slots and its children's row are right
 pub inner-iff : (v : View) (n : ℕ) → (inner_ok v n ≡ true) ↔ InnerOk v n
 unfolding inner_ok
 inner-iff v n = (
-  λ h. let u = simp and-iff at h in record { keys = (keys-iff v n (suc (v.node n).fence)).0 u.0; left = u.1.0; slots = u.1.1.0; range = u.1.1.1.0; chain = u.1.1.1.1 },
+  λ h. let u = simp and-iff at h in record
+      { keys = (keys-iff v n (suc (v.node n).fence)).0 u.0; left = u.1.0; slots = u.1.1.0; range = u.1.1.1.0; chain = u.1.1.1.1 },
   λ k. simp and-iff ((keys-iff v n (suc (v.node n).fence)).1 k.keys, (k.left, (k.slots, (k.range, k.chain)))),
 )
 
@@ -77,6 +77,7 @@ pub record HasLeft (v : View) (x : Leftover) : Type 0 where
   pub orderly : Orderly v
   pub left : Left v x
 
+-- a tree passes the test of order with leftover x exactly if it is orderly and has x left
 pub has-left-iff : (v : View) (x : Leftover) → ((orderly v ≡ true) × (leftover v ≡ some x)) ↔ HasLeft v x
 has-left-iff v x = (
   λ h. let o = (orderly-iff v).0 h.0 in record { orderly = o; left = (leftover-iff v o.once x).0 h.1 },
@@ -86,7 +87,8 @@ has-left-iff v x = (
 -- in a settled view nothing is unfinished in any reached node
 pub all-finished : (v : View) → HasLeft v nothing → Each (NothingUnfinished v) (reached v)
 all-finished v l =
-    Each-map (λ (n : ℕ). ((v.node n).hidden ≡ 0) × ((kept v n ≡ (v.node n).shown) × ((v.node n).level ≢ 0 → children v n ≡ named v n))) (NothingUnfinished v) (reached v)
+    Each-map (λ (n : ℕ). ((v.node n).hidden ≡ 0) × ((kept v n ≡ (v.node n).shown) × ((v.node n).level ≢ 0 → children v n ≡ named v n)))
+    (NothingUnfinished v) (reached v)
     (λ n h. record { shows = h.0; keeps = h.1.0; names = h.1.1 })
     (each-both _ _ (reached v) l.left.0 (each-both _ _ (reached v) l.left.1 l.left.2))
 
@@ -100,12 +102,14 @@ finished-left v o h = record {
   );
 }
 
+-- a tree passes the test of settled ones exactly if it is orderly and has nothing left
 pub settled-left : (v : View) → (settled_view v ≡ true) ↔ HasLeft v nothing
 settled-left v = (
   λ h. let s = (settled-iff v).0 h in finished-left v s.orderly s.nothing-unfinished,
   λ l. (settled-iff v).1 (record { orderly = l.orderly; nothing-unfinished = all-finished v l }),
 )
 
+-- a tree passes the test of soundness exactly if it is orderly with some leftover, and room for a lacking slot
 pub sound-left : (v : View) → (sound_view v ≡ true) ↔ ((x : Leftover) × HasLeft v x × (has_room v x ≡ true))
 sound-left v = (
   λ h. let s = (sound-iff v).0 h in (s.leftover, record { orderly = s.orderly; left = s.left }, s.room),

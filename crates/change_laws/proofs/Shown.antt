@@ -1,10 +1,5 @@
 -- Other shown slots in one node: what else stays, where its children stay.
-use mathlib.Core.Path.{◌≡◌, refl, ap, sym, ◌∙◌}
-use mathlib.Core.Bool.{true, false}
-use mathlib.Core.Logic.{◌≢◌}
-use mathlib.Core.List.{List, [], ◌∷◌}
-use Prim.Native.Nat.{ℕ, suc}
-use lib.Dec.{eqb}
+use Rattle.std.proofs.Common.{◌≡◌, ℕ, suc, true, false, eqb, ◌≢◌, List, [], ◌∷◌, sym, refl, ap, ◌∙◌}
 use Rattle.model.specs.Table.{in_range}
 use Rattle.model.specs.Slots.{Slot, View, height}
 use Rattle.model.specs.Search.{below, within}
@@ -48,7 +43,8 @@ module _ (v : View) (g : ℕ → List Slot) (n : ℕ) (e : g n ≡ (v.node n).sh
 module _ (v : View) (g : ℕ → List Slot) (n : ℕ) (e : kept (shown_by v g) n ≡ kept v n) where
   pub children-kept : children (shown_by v g) n ≡ children v n
   unfolding children fill_row first_child
-  children-kept = ap (λ (ks : List Slot). elim (eqb (v.node n).level 0) as (λ b. List ℕ) [ true ↦ [] | false ↦ fill_row v ((v.node n).left ∷ pointers ks) (next_child v n) ]) e
+  children-kept = ap (λ (ks : List Slot). elim (eqb (v.node n).level 0) as (λ b. List ℕ)
+      [ true ↦ [] | false ↦ fill_row v ((v.node n).left ∷ pointers ks) (next_child v n) ]) e
 
   keys-kept : (low : ℕ) → come_first (λ (s : Slot). within v n s.key) (g n) ≡ true → KeysOk v n low → KeysOk (shown_by v g) n low
   unfolding below
@@ -56,7 +52,13 @@ module _ (v : View) (g : ℕ → List Slot) (n : ℕ) (e : kept (shown_by v g) n
 
   inner-kept : come_first (λ (s : Slot). within v n s.key) (g n) ≡ true → InnerOk v n → InnerOk (shown_by v g) n
   unfolding child_ok slot_ok linked first_child
-  inner-kept c k = record { keys = keys-kept (suc (v.node n).fence) c k.keys; left = k.left; slots = rw e k.slots; range = rw children-kept k.range; chain = rw children-kept k.chain }
+  inner-kept c k = record {
+    keys = keys-kept (suc (v.node n).fence) c k.keys;
+    left = k.left;
+    slots = rw e k.slots;
+    range = rw children-kept k.range;
+    chain = rw children-kept k.chain;
+  }
 
   siblings : sibling_ok v n ≡ true → sibling_ok (shown_by v g) n ≡ true
   unfolding sibling_ok in_range
@@ -66,8 +68,10 @@ module _ (v : View) (g : ℕ → List Slot) (n : ℕ) (e : kept (shown_by v g) n
   good-kept c h =
       let u = good-parts v n h in
       by-level v (λ (m : ℕ). Good (shown_by v g) n) n
-      (λ l. let k = (leaf-iff v n).0 (leaf-ok v n h l) in good-leaf (shown_by v g) n l u.0 (siblings u.1) ((leaf-iff (shown_by v g) n).1 (record { left = k.left; keys = keys-kept (v.node n).fence c k.keys })))
-      (λ d l. good-inner (shown_by v g) d n l u.0 (siblings u.1) ((inner-iff (shown_by v g) n).1 (inner-kept c ((inner-iff v n).0 (inner-ok v d n h l)))))
+      (λ l. let k = (leaf-iff v n).0 (leaf-ok v n h l) in good-leaf (shown_by v g) n l u.0 (siblings u.1)
+      ((leaf-iff (shown_by v g) n).1 (record { left = k.left; keys = keys-kept (v.node n).fence c k.keys })))
+      (λ d l. good-inner (shown_by v g) d n l u.0 (siblings u.1)
+      ((inner-iff (shown_by v g) n).1 (inner-kept c ((inner-iff v n).0 (inner-ok v d n h l)))))
 
 -- ---- the same children everywhere: the same nodes are reached
 
@@ -90,13 +94,18 @@ module _ (v : View) (x : ℕ) (ss : List Slot) (same : children (with_shown v x 
   -- x is no leaf, or keeps the same slots
   pub shown-mapping : Each (λ (n : ℕ). n ≡ x → kept (with_shown v x ss) x ≡ kept v x) (leaves v) → mapping (with_shown v x ss) ≡ mapping v
   unfolding mapping
-  shown-mapping h = ap (flat (kept v')) shown-leaves ∙ flat-each (kept v') (kept v) (leaves v) (Each-map (λ (n : ℕ). n ≡ x → kept v' x ≡ kept v x) (λ (n : ℕ). kept v' n ≡ kept v n) (leaves v)
+  shown-mapping h = ap (flat (kept v')) shown-leaves
+      ∙ flat-each (kept v') (kept v) (leaves v)
+      (Each-map (λ (n : ℕ). n ≡ x → kept v' x ≡ kept v x) (λ (n : ℕ). kept v' n ≡ kept v n) (leaves v)
       (at-or-off (λ (n : ℕ). (n ≡ x → kept v' x ≡ kept v x) → kept v' n ≡ kept v n) x (λ k. k refl) (λ n z k. kept-own v _ n (off n z))) h)
 
-  pub shown-orderly : Orderly v → (Good v x → Good (with_shown v x ss) x) → recordings_ok (mapping (with_shown v x ss)) ≡ true → Orderly (with_shown v x ss)
+  pub shown-orderly : Orderly v → (Good v x → Good (with_shown v x ss) x) → recordings_ok (mapping (with_shown v x ss)) ≡ true
+      → Orderly (with_shown v x ss)
   shown-orderly o g d = record {
     top = record { range = o.top.range; level = o.top.level; fence = o.top.fence; sibling = o.top.sibling };
-    good = rw shown-reached (Each-map (Good v) (Good v') (reached v) (at-or-off (λ (n : ℕ). Good v n → Good v' n) x g (λ n z h. good-own v _ n (off n z) ∙ h)) o.good);
+    good = rw shown-reached
+        (Each-map (Good v) (Good v') (reached v)
+        (at-or-off (λ (n : ℕ). Good v n → Good v' n) x g (λ n z h. good-own v _ n (off n z) ∙ h)) o.good);
     once = rw shown-reached o.once;
     recordings = d;
   }

@@ -1,13 +1,9 @@
 -- A number put in after another one in a list of nodes.
-use mathlib.Core.Path.{◌≡◌, refl, ap, sym, ◌∙◌}
-use mathlib.Core.Bool.{Bool, true, false}
-use mathlib.Core.Logic.{◌≢◌, ◌⊎◌, inl, inr}
+use Rattle.std.proofs.Common.{◌≡◌, ℕ, suc, Bool, true, false, eqb, ◌≢◌, ◌⊎◌, List, [], ◌∷◌, ◌++◌, length, sym, refl, ap, ◌∙◌, inl, inr}
+use Rattle.std.proofs.Common.{append_assoc, eq-eqb, ne_eqb, eqb-true}
 use mathlib.Core.List.Memᴰ
-use mathlib.Core.List.{List, [], ◌∷◌, ◌++◌, append_assoc, Memᴰ}
-use Prim.Native.Nat.{ℕ, suc}
-use lib.Dec.{eqb}
-use lib.ListN.{length}
-use borrow.Author.Tests.{eqb-true, eqb-false, eq-eqb, ne_eqb}
+use mathlib.Core.List.{Memᴰ}
+use borrow.Author.Tests.{eqb-false}
 use Rattle.model.specs.Reached.{flat, head_or}
 use Rattle.model.specs.SoundTest.{elem, distinct}
 use Rattle.list_laws.proofs.Tools.{Each}
@@ -21,14 +17,17 @@ splice a b [] = []
 splice a b (n ∷ ns) = elim (eqb n a) [ true ↦ n ∷ b ∷ splice a b ns | false ↦ n ∷ splice a b ns ]
 
 module _ (a b : ℕ) where
+  -- an empty list has no a to put b after
   pub splice-nil : splice a b [] ≡ []
   unfolding splice
   splice-nil = refl
 
+  -- after a first a comes b
   pub splice-at : (ns : List ℕ) → splice a b (a ∷ ns) ≡ a ∷ b ∷ splice a b ns
   unfolding splice
   splice-at ns = rw (eq-eqb a a refl, splice)
 
+  -- a first number other than a stays in front
   pub splice-off : (n : ℕ) (ns : List ℕ) → n ≢ a → splice a b (n ∷ ns) ≡ n ∷ splice a b ns
   unfolding splice
   splice-off n ns z = rw (ne_eqb n a z, splice)
@@ -38,7 +37,8 @@ module _ (a b : ℕ) where
   splice-append [] ys = refl
   splice-append (n ∷ xs) ys = go (eqb n a) refl (splice-append xs ys)
     where
-      go : (c : Bool) → eqb n a ≡ c → splice a b (xs ++ ys) ≡ splice a b xs ++ splice a b ys → splice a b (n ∷ xs ++ ys) ≡ splice a b (n ∷ xs) ++ splice a b ys
+      go : (c : Bool) → eqb n a ≡ c → splice a b (xs ++ ys) ≡ splice a b xs ++ splice a b ys → splice a b (n ∷ xs ++ ys)
+          ≡ splice a b (n ∷ xs) ++ splice a b ys
       go true e ih = rw (e, splice) (ap (λ (l : List ℕ). n ∷ b ∷ l) ih)
       go false e ih = rw (e, splice) (ap (λ (l : List ℕ). n ∷ l) ih)
 
@@ -57,7 +57,8 @@ module _ (a b : ℕ) where
       go false q = rw (q, splice)
 
   -- what holds of each element, and of a and of b
-  pub splice-each : (P Q : ℕ → Type 0) → ((n : ℕ) → n ≢ a → P n → Q n) → (P a → Q a × Q b) → (ns : List ℕ) → Each P ns → Each Q (splice a b ns)
+  pub splice-each : (P Q : ℕ → Type 0) → ((n : ℕ) → n ≢ a → P n → Q n) → (P a → Q a × Q b) → (ns : List ℕ) → Each P ns
+      → Each Q (splice a b ns)
   splice-each P Q off at [] h = rw splice-nil tt
   splice-each P Q off at (n ∷ ns) h = go (eqb n a) refl (splice-each P Q off at ns h.1)
     where
@@ -66,13 +67,15 @@ module _ (a b : ℕ) where
       go false e ih = rw (splice-off n ns (eqb-false n a e)) (off n (eqb-false n a e) h.0, ih)
 
   -- where what a gave is what a and b give now, the whole is what it was
-  pub splice-flat : {C : Type 0} (g h : ℕ → List C) → g a ++ g b ≡ h a → (ns : List ℕ) → Each (λ (n : ℕ). n ≢ a → g n ≡ h n) ns → flat g (splice a b ns) ≡ flat h ns
+  pub splice-flat : {C : Type 0} (g h : ℕ → List C) → g a ++ g b ≡ h a → (ns : List ℕ) → Each (λ (n : ℕ). n ≢ a → g n ≡ h n) ns
+      → flat g (splice a b ns) ≡ flat h ns
   unfolding flat
   splice-flat g h at [] off = rw splice-nil
   splice-flat {C} g h at (n ∷ ns) off = go (eqb n a) refl (splice-flat g h at ns off.1)
     where
       go : (c : Bool) → eqb n a ≡ c → flat g (splice a b ns) ≡ flat h ns → flat g (splice a b (n ∷ ns)) ≡ h n ++ flat h ns
-      go true e ih = rw (eqb-true n a e, splice-at ns, ih) (sym (append_assoc (g a) (g b) (flat h ns)) ∙ ap (λ (l : List C). l ++ flat h ns) at)
+      go true e ih = rw (eqb-true n a e, splice-at ns, ih)
+          (sym (append_assoc (g a) (g b) (flat h ns)) ∙ ap (λ (l : List C). l ++ flat h ns) at)
       go false e ih = rw (splice-off n ns (eqb-false n a e), off.0 (eqb-false n a e), ih)
 
   pub splice-out : (g : ℕ → List ℕ) (ns : List ℕ) → flat (λ (n : ℕ). splice a b (g n)) ns ≡ splice a b (flat g ns)
@@ -85,10 +88,13 @@ module _ (a b : ℕ) where
   elem-splice n [] z h = rw splice-nil h
   elem-splice n (m ∷ ns) z h = let u = (elem-cons n m ns).0 h in go (eqb m a) refl u (elem-splice n ns z u.1)
     where
-      go : (c : Bool) → eqb m a ≡ c → (n ≡ m → ⊥) × (elem n ns ≡ false) → elem n (splice a b ns) ≡ false → elem n (splice a b (m ∷ ns)) ≡ false
-      go true c u ih = let q = eqb-true m a c in rw (q, splice-at ns) ((elem-cons n a _).1 (λ e. u.0 (e ∙ sym q), (elem-cons n b _).1 (z, ih)))
+      go : (c : Bool) → eqb m a ≡ c → (n ≡ m → ⊥) × (elem n ns ≡ false) → elem n (splice a b ns) ≡ false
+          → elem n (splice a b (m ∷ ns)) ≡ false
+      go true c u ih = let q =
+          eqb-true m a c in rw (q, splice-at ns) ((elem-cons n a _).1 (λ e. u.0 (e ∙ sym q), (elem-cons n b _).1 (z, ih)))
       go false c u ih = rw (splice-off m ns (eqb-false m a c)) ((elem-cons n m _).1 (u.0, ih))
 
+  -- the numbers of a list are still there with b put in after a
   pub mem-splice : (x : ℕ) (ns : List ℕ) → Memᴰ x ns → Memᴰ x (splice a b ns)
   mem-splice x [] m = absurd (Memᴰ.not-nil m)
   mem-splice x (n ∷ ns) m = go (eqb n a) refl (Memᴰ.cases_cons m) (mem-splice x ns)
@@ -107,26 +113,33 @@ module _ (a b : ℕ) where
       go true e = (elem-iff n (splice a b ns)).1 (mem-splice n ns ((elem-iff n ns).0 e))
       go false e = elem-splice n ns z e
 
+  -- if a is in the list, b is in it once it is put in after a
   pub splice-in : (ns : List ℕ) → Once a ns → Memᴰ b (splice a b ns)
-  splice-in ns o = rw (o.shape, splice-append o.before (a ∷ o.after), splice-at o.after) (Memᴰ.append_right (splice a b o.before) (Memᴰ.tail (Memᴰ.head refl)))
+  splice-in ns o = rw (o.shape, splice-append o.before (a ∷ o.after), splice-at o.after)
+      (Memᴰ.append_right (splice a b o.before) (Memᴰ.tail (Memᴰ.head refl)))
 
   pub distinct-splice : (ns : List ℕ) → distinct ns ≡ true → elem b ns ≡ false → distinct (splice a b ns) ≡ true
   distinct-splice [] d h = rw splice-nil d
-  distinct-splice (n ∷ ns) d h = go (eqb n a) refl ((distinct-cons n ns).0 d) ((elem-cons b n ns).0 h) (distinct-splice ns ((distinct-cons n ns).0 d).1 ((elem-cons b n ns).0 h).1)
+  distinct-splice (n ∷ ns) d h =
+      go (eqb n a) refl ((distinct-cons n ns).0 d) ((elem-cons b n ns).0 h)
+      (distinct-splice ns ((distinct-cons n ns).0 d).1 ((elem-cons b n ns).0 h).1)
     where
-      go : (c : Bool) → eqb n a ≡ c → (elem n ns ≡ false) × (distinct ns ≡ true) → (b ≡ n → ⊥) × (elem b ns ≡ false) → distinct (splice a b ns) ≡ true → distinct (splice a b (n ∷ ns)) ≡ true
+      go : (c : Bool) → eqb n a ≡ c → (elem n ns ≡ false) × (distinct ns ≡ true) → (b ≡ n → ⊥) × (elem b ns ≡ false)
+          → distinct (splice a b ns) ≡ true → distinct (splice a b (n ∷ ns)) ≡ true
       go true c u w ih =
           let q = eqb-true n a c in
           let e : elem a ns ≡ false = rw q at u.0 in
           let y : a ≡ b → ⊥ = λ t. w.0 (sym t ∙ sym q) in
           let s : splice a b ns ≡ ns = splice-none ns ((elem-false a ns).0 e) in
           rw (q, splice-at ns, s) ((distinct-cons a (b ∷ ns)).1 ((elem-cons a b ns).1 (y, e), (distinct-cons b ns).1 (w.1, u.1)))
-      go false c u w ih = rw (splice-off n ns (eqb-false n a c)) ((distinct-cons n (splice a b ns)).1 (elem-splice n ns (λ t. w.0 (sym t)) u.0, ih))
+      go false c u w ih = rw (splice-off n ns (eqb-false n a c))
+          ((distinct-cons n (splice a b ns)).1 (elem-splice n ns (λ t. w.0 (sym t)) u.0, ih))
 
   -- where a stands once, b stands after it
   pub splice-once : (ns : List ℕ) (o : Once a ns) → splice a b ns ≡ o.before ++ a ∷ b ∷ o.after
   splice-once ns o =
-      ap (splice a b) o.shape ∙ splice-append o.before (a ∷ o.after) ∙ ap (λ (l : List ℕ). l ++ splice a b (a ∷ o.after)) (splice-none o.before o.not-before)
+      ap (splice a b) o.shape ∙ splice-append o.before (a ∷ o.after)
+      ∙ ap (λ (l : List ℕ). l ++ splice a b (a ∷ o.after)) (splice-none o.before o.not-before)
       ∙ ap (λ (l : List ℕ). o.before ++ l) (splice-at o.after ∙ ap (λ (l : List ℕ). a ∷ b ∷ l) (splice-none o.after o.not-after))
 
   -- one more
@@ -141,7 +154,8 @@ module _ (a b : ℕ) where
   pub splice-new : (ns : List ℕ) → Once a ns → distinct (splice a b ns) ≡ true → elem b ns ≡ false
   splice-new ns o d =
       let e = splice-once ns o ∙ sym (append_assoc o.before (a ∷ []) (b ∷ o.after)) in
-      ap (elem b) (o.shape ∙ sym (append_assoc o.before (a ∷ []) o.after)) ∙ ((distinct-middle b (o.before ++ a ∷ []) o.after).0 (rw e at d)).0
+      ap (elem b) (o.shape ∙ sym (append_assoc o.before (a ∷ []) o.after))
+      ∙ ((distinct-middle b (o.before ++ a ∷ []) o.after).0 (rw e at d)).0
 
   -- what holds of each element of the longer list
   pub each-unsplice : (P : ℕ → Type 0) (ns : List ℕ) → Each P (splice a b ns) → Each P ns

@@ -1,25 +1,25 @@
 -- A node that is not reached may hold anything: reached nodes, map, soundness and leftover stay.
-use mathlib.Core.Path.{◌≡◌, refl, ap, sym, ◌∙◌, subst}
-use mathlib.Core.Bool.{Bool, true, false}
-use mathlib.Core.Logic.{◌≢◌}
-use mathlib.Core.List.{List, [], ◌∷◌, Memᴰ}
-use Prim.Native.Nat.{ℕ, zero, suc}
-use native.Mathlib.Omega.{arith}
-use lib.Dec.{eqb}
+use Rattle.std.proofs.Common.{◌≡◌, ℕ, zero, suc, Bool, true, false, eqb, ◌≢◌, List, [], ◌∷◌, sym, refl, ap, ◌∙◌, subst, arith}
+use mathlib.Core.List.{Memᴰ}
 use Rattle.model.specs.Slots.{Slot, NodeView, View, height}
 use Rattle.model.specs.Search.{below, within}
-use Rattle.model.specs.Reached.{filter, flat, head_or, pointers, kept, named, first_child, next_child, fill_row, children, reached_from, leaves_from, reached, leaves, mapping}
-use Rattle.model.specs.SoundTest.{all, elem, sibling_ok, come_first, linked, child_ok, slot_ok, Leftover, nothing, hidden_in, missing_in, both_in, room, has_room}
+use Rattle.model.specs.Reached.{filter, flat, head_or, pointers, kept, named, first_child, next_child, fill_row, children, reached_from}
+use Rattle.model.specs.Reached.{leaves_from, reached, leaves, mapping}
+use Rattle.model.specs.SoundTest.{all, elem, sibling_ok, come_first, linked, child_ok, slot_ok, Leftover, nothing, hidden_in, missing_in}
+use Rattle.model.specs.SoundTest.{both_in, room, has_room}
 use Rattle.list_laws.proofs.Tools.{Each, Each-split, Each-map}
 use Rattle.view_laws.proofs.NodeViews.{level_of, AllBut, level-eq}
 use Rattle.list_laws.proofs.Members.{elem-none, mem-each, each-both, mem-here, flat-each}
-use Rattle.tree_laws.proofs.Rows.{Good, link-head, link-tail, children-inner, leaf-ok, inner-ok, each-here, each-leaf, SameChildren, reached-agree, leaves-agree}
+use Rattle.tree_laws.proofs.Rows.{Good, link-head, link-tail, children-inner, leaf-ok, inner-ok, each-here, each-leaf, SameChildren}
+use Rattle.tree_laws.proofs.Rows.{reached-agree, leaves-agree}
 use Rattle.tree_laws.proofs.Kept.{by-level}
 use Rattle.tree_laws.proofs.Levels.{RootFacts, Orderly}
 use Rattle.tree_laws.proofs.Gaps.{Gap}
-use Rattle.tree_laws.proofs.Leftovers.{children-of, gap-children, Left, NoneHidden, NoneTrailing, NoneMissing, HiddenOnly, TrailingOnly, MissingOnly}
+use Rattle.tree_laws.proofs.Leftovers.{children-of, gap-children, Left, NoneHidden, NoneTrailing, NoneMissing, HiddenOnly, TrailingOnly}
+use Rattle.tree_laws.proofs.Leftovers.{MissingOnly}
 use Rattle.change_laws.proofs.Lists.{Off}
-use Rattle.change_laws.proofs.Parts.{KeysOk, LeafOk, leaf-iff, InnerOk, inner-iff, good-parts, good-leaf, good-inner, no-children, HasLeft, Keeps, same-room}
+use Rattle.change_laws.proofs.Parts.{KeysOk, LeafOk, leaf-iff, InnerOk, inner-iff, good-parts, good-leaf, good-inner, no-children, HasLeft}
+use Rattle.change_laws.proofs.Parts.{Keeps, same-room}
 use Rattle.change_laws.proofs.Parents.{sibling-reached, child-reached}
 
 fill-names : (v : View) (P : ℕ → Type 0) (ns : List ℕ) (e : ℕ) → Each P (fill_row v ns e) → Each P ns
@@ -55,20 +55,24 @@ module _ (v v' : View) (b : ℕ) (same-nodes : v'.nodes ≡ v.nodes) (same-root 
 
     kept-agree : kept v' n ≡ kept v n
     unfolding kept
-    kept-agree = ap (λ (m : NodeView). filter (λ (s : Slot). within v' n s.key) m.shown) (same.else n c.own) ∙ ap (λ (q : Slot → Bool). filter q (v.node n).shown) (λ i s. within-agree s.key i)
+    kept-agree = ap (λ (m : NodeView). filter (λ (s : Slot). within v' n s.key) m.shown) (same.else n c.own)
+        ∙ ap (λ (q : Slot → Bool). filter q (v.node n).shown) (λ i s. within-agree s.key i)
 
     next-agree : next_child v' n ≡ next_child v n
     next-agree = ap (λ (m : NodeView). first_child v' m.sibling) (same.else n c.own) ∙ first-agree (v.node n).sibling c.sibling
 
     named-agree : named v' n ≡ named v n
-    named-agree = ap (λ (m : NodeView). m.left ∷ pointers (kept v' n)) (same.else n c.own) ∙ ap (λ (ks : List Slot). (v.node n).left ∷ pointers ks) kept-agree
+    named-agree = ap (λ (m : NodeView). m.left ∷ pointers (kept v' n)) (same.else n c.own)
+        ∙ ap (λ (ks : List Slot). (v.node n).left ∷ pointers ks) kept-agree
 
   fill-agree : (ns : List ℕ) (e : ℕ) → Off b ns → fill_row v' ns e ≡ fill_row v ns e
   unfolding fill_row
   fill-agree [] e h = refl
   fill-agree (n ∷ ns) e h =
-      ap (λ (m : NodeView). elim (eqb m.sibling (head_or e ns)) as (λ c. List ℕ) [ true ↦ n ∷ fill_row v' ns e | false ↦ n ∷ m.sibling ∷ fill_row v' ns e ]) (same.else n h.0)
-      ∙ ap (λ (l : List ℕ). elim (eqb (v.node n).sibling (head_or e ns)) as (λ c. List ℕ) [ true ↦ n ∷ l | false ↦ n ∷ (v.node n).sibling ∷ l ]) (fill-agree ns e h.1)
+      ap (λ (m : NodeView). elim (eqb m.sibling (head_or e ns)) as (λ c. List ℕ)
+      [ true ↦ n ∷ fill_row v' ns e | false ↦ n ∷ m.sibling ∷ fill_row v' ns e ]) (same.else n h.0)
+      ∙ ap (λ (l : List ℕ). elim (eqb (v.node n).sibling (head_or e ns)) as (λ c. List ℕ)
+      [ true ↦ n ∷ l | false ↦ n ∷ (v.node n).sibling ∷ l ]) (fill-agree ns e h.1)
 
   linked-agree : (ns : List ℕ) (e : ℕ) → Off b ns → linked v' ns e ≡ linked v ns e
   unfolding linked
@@ -80,7 +84,8 @@ module _ (v v' : View) (b : ℕ) (same-nodes : v'.nodes ≡ v.nodes) (same-root 
       (λ l. no-children v' n (same-level n c.own ∙ l) ∙ sym (no-children v n l))
       (λ d l.
       children-inner v' d n (same-level n c.own ∙ l) ∙ ap (λ (r : List ℕ). fill_row v' r (next_child v' n)) (named-agree n c)
-      ∙ ap (fill_row v' (named v n)) (next-agree n c) ∙ fill-agree (named v n) (next_child v n) (c.names (λ z. omega arith)) ∙ sym (children-inner v d n l))
+      ∙ ap (fill_row v' (named v n)) (next-agree n c) ∙ fill-agree (named v n) (next_child v n) (c.names (λ z. omega arith))
+      ∙ sym (children-inner v d n l))
 
   -- ---- the conditions of a clear node
 
@@ -91,7 +96,8 @@ module _ (v v' : View) (b : ℕ) (same-nodes : v'.nodes ≡ v.nodes) (same-root 
   keys-agree : (n low : ℕ) → Clear n → KeysOk v n low → KeysOk v' n low
   keys-agree n low c k = record {
     rise = rw (kept-agree n c) k.rise;
-    first = ap (λ (m : NodeView). come_first (λ (s : Slot). within v' n s.key) m.shown) (same.else n c.own) ∙ ap (λ (q : Slot → Bool). come_first q (v.node n).shown) (λ i s. within-agree n c s.key i) ∙ k.first;
+    first = ap (λ (m : NodeView). come_first (λ (s : Slot). within v' n s.key) m.shown) (same.else n c.own)
+        ∙ ap (λ (q : Slot → Bool). come_first q (v.node n).shown) (λ i s. within-agree n c s.key i) ∙ k.first;
   }
 
   child-agree : (l k m : ℕ) → m ≢ b → child_ok v' l k m ≡ child_ok v l k m
@@ -125,8 +131,10 @@ module _ (v v' : View) (b : ℕ) (same-nodes : v'.nodes ≡ v.nodes) (same-root 
       u = good-parts v n g
 
       go : (d : ℕ) → (v.node n).level ≡ d → Good v' n
-      go zero l = good-leaf v' n (same-level n c.own ∙ l) (rw (same.else n c.own) u.0) (sib-agree n c ∙ u.1) ((leaf-iff v' n).1 (leaf-agree n c ((leaf-iff v n).0 (leaf-ok v n g l))))
-      go (suc d) l = good-inner v' d n (same-level n c.own ∙ l) (rw (same.else n c.own) u.0) (sib-agree n c ∙ u.1) ((inner-iff v' n).1 (inner-agree d n l c ((inner-iff v n).0 (inner-ok v d n g l))))
+      go zero l = good-leaf v' n (same-level n c.own ∙ l) (rw (same.else n c.own) u.0) (sib-agree n c ∙ u.1)
+          ((leaf-iff v' n).1 (leaf-agree n c ((leaf-iff v n).0 (leaf-ok v n g l))))
+      go (suc d) l = good-inner v' d n (same-level n c.own ∙ l) (rw (same.else n c.own) u.0) (sib-agree n c ∙ u.1)
+          ((inner-iff v' n).1 (inner-agree d n l c ((inner-iff v n).0 (inner-ok v d n g l))))
 
   -- ---- the nodes reached, and the map
 
@@ -157,12 +165,17 @@ module _ (v v' : View) (b : ℕ) (same-nodes : v'.nodes ≡ v.nodes) (same-root 
     same-children = Each-map Clear (SameChildren v v') (reached v) children-agree clears
 
     same-reached : reached v' ≡ reached v
-    same-reached = ap (λ (d : ℕ). reached_from v' d (v'.root ∷ [])) same-height ∙ ap (λ (n : ℕ). reached_from v' (height v) (n ∷ [])) (same-root) ∙ reached-agree v v' (height v) (v.root ∷ []) same-children
+    same-reached = ap (λ (d : ℕ). reached_from v' d (v'.root ∷ [])) same-height
+        ∙ ap (λ (n : ℕ). reached_from v' (height v) (n ∷ [])) (same-root) ∙ reached-agree v v' (height v) (v.root ∷ []) same-children
 
     same-mapping : mapping v' ≡ mapping v
     unfolding mapping
-    same-mapping = ap (flat (kept v')) (ap (λ (d : ℕ). leaves_from v' d (v'.root ∷ [])) same-height ∙ ap (λ (n : ℕ). leaves_from v' (height v) (n ∷ [])) (same-root) ∙ leaves-agree v v' (height v) (v.root ∷ []) same-children)
-        ∙ flat-each (kept v') (kept v) (leaves v) (Each-map Clear (λ (n : ℕ). kept v' n ≡ kept v n) (leaves v) (λ n c. kept-agree n c) (each-leaf v Clear (height v) (v.root ∷ []) clears))
+    same-mapping = ap (flat (kept v'))
+        (ap (λ (d : ℕ). leaves_from v' d (v'.root ∷ [])) same-height ∙ ap (λ (n : ℕ). leaves_from v' (height v) (n ∷ [])) (same-root)
+        ∙ leaves-agree v v' (height v) (v.root ∷ []) same-children)
+        ∙ flat-each (kept v') (kept v) (leaves v)
+        (Each-map Clear (λ (n : ℕ). kept v' n ≡ kept v n) (leaves v) (λ n c. kept-agree n c)
+        (each-leaf v Clear (height v) (v.root ∷ []) clears))
 
     same-top : RootFacts v'
     same-top =
@@ -196,7 +209,8 @@ module _ (v v' : View) (b : ℕ) (same-nodes : v'.nodes ≡ v.nodes) (same-root 
     names-at : (n : ℕ) → Clear n → ((v.node n).level ≢ 0 → children v n ≡ named v n) → (v'.node n).level ≢ 0 → children v' n ≡ named v' n
     names-at n c h z = children-agree n c ∙ h (λ e. z (same-level n c.own ∙ e)) ∙ sym (named-agree n c)
 
-    gap-at : (a p : ℕ) → Memᴰ a (reached v) → Clear p → (z : (v.node p).level ≢ 0) → Gap v a (named v p) (next_child v p) → Gap v' a (named v' p) (next_child v' p)
+    gap-at : (a p : ℕ) → Memᴰ a (reached v) → Clear p → (z : (v.node p).level ≢ 0) → Gap v a (named v p) (next_child v p)
+        → Gap v' a (named v' p) (next_child v' p)
     gap-at a p m c z g =
         let u = Each-split (λ (n : ℕ). n ≢ b) g.before (a ∷ g.after) (subst (λ (l : List ℕ). Off b l) g.shape (c.names z)) in
         record {
@@ -215,13 +229,15 @@ module _ (v v' : View) (b : ℕ) (same-nodes : v'.nodes ≡ v.nodes) (same-root 
     no-trailing = moved-each (λ (n : ℕ). kept v n ≡ (v.node n).shown) (λ (n : ℕ). kept v' n ≡ (v'.node n).shown) keeps-at
 
     no-missing : NoneMissing v → NoneMissing v'
-    no-missing = moved-each (λ (n : ℕ). (v.node n).level ≢ 0 → children v n ≡ named v n) (λ (n : ℕ). (v'.node n).level ≢ 0 → children v' n ≡ named v' n) names-at
+    no-missing = moved-each (λ (n : ℕ). (v.node n).level ≢ 0 → children v n ≡ named v n)
+        (λ (n : ℕ). (v'.node n).level ≢ 0 → children v' n ≡ named v' n) names-at
 
     only-hidden : (x : ℕ) → HiddenOnly v x → HiddenOnly v' x
     only-hidden x h = record {
       member = rw same-reached h.member;
       here = hidden-at 1 x (clear x h.member) h.here;
-      others = moved-each (λ (n : ℕ). n ≢ x → (v.node n).hidden ≡ 0) (λ (n : ℕ). n ≢ x → (v'.node n).hidden ≡ 0) (λ n c q z. hidden-at 0 n c (q z)) h.others;
+      others = moved-each (λ (n : ℕ). n ≢ x → (v.node n).hidden ≡ 0) (λ (n : ℕ). n ≢ x → (v'.node n).hidden ≡ 0)
+          (λ n c q z. hidden-at 0 n c (q z)) h.others;
     }
 
     only-trailing : (a : ℕ) → TrailingOnly v a → TrailingOnly v' a
@@ -230,18 +246,21 @@ module _ (v v' : View) (b : ℕ) (same-nodes : v'.nodes ≡ v.nodes) (same-root 
         record {
           member = rw same-reached h.member;
           here = λ e. h.here (sym (kept-agree a c) ∙ e ∙ rw (same.else a c.own));
-          others = moved-each (λ (n : ℕ). n ≢ a → kept v n ≡ (v.node n).shown) (λ (n : ℕ). n ≢ a → kept v' n ≡ (v'.node n).shown) (λ n c q z. keeps-at n c (q z)) h.others;
+          others = moved-each (λ (n : ℕ). n ≢ a → kept v n ≡ (v.node n).shown) (λ (n : ℕ). n ≢ a → kept v' n ≡ (v'.node n).shown)
+              (λ n c q z. keeps-at n c (q z)) h.others;
         }
 
     only-missing : (p a : ℕ) → MissingOnly v p a → MissingOnly v' p a
     only-missing p a h =
         let c = clear p h.member in
         let z = h.here.0 in
-        let m = child-reached v p a o h.member (rw (gap-children v p a z h.here.1) (mem-here a h.here.1.before ((v.node a).sibling ∷ h.here.1.after))) in
+        let m = child-reached v p a o h.member
+        (rw (gap-children v p a z h.here.1) (mem-here a h.here.1.before ((v.node a).sibling ∷ h.here.1.after))) in
         record {
           member = rw same-reached h.member;
           here = ((λ e. z (sym (same-level p c.own) ∙ e)), gap-at a p m c z h.here.1);
-          others = moved-each (λ (n : ℕ). n ≢ p → (v.node n).level ≢ 0 → children v n ≡ named v n) (λ (n : ℕ). n ≢ p → (v'.node n).level ≢ 0 → children v' n ≡ named v' n) (λ n c q y. names-at n c (q y)) h.others;
+          others = moved-each (λ (n : ℕ). n ≢ p → (v.node n).level ≢ 0 → children v n ≡ named v n)
+              (λ (n : ℕ). n ≢ p → (v'.node n).level ≢ 0 → children v' n ≡ named v' n) (λ n c q y. names-at n c (q y)) h.others;
         }
 
     same-left : (y : Leftover) → Left v y → Left v' y

@@ -1,12 +1,8 @@
 -- What a caller may know of new recordings: how they are told, and what is left of them when the first has entered the map.
-use mathlib.Core.Path.{◌≡◌, refl, ap, sym, ◌∙◌}
-use mathlib.Core.Bool.{Bool, true, false, ◌||◌, false≢true}
-use mathlib.Core.List.{List, [], ◌∷◌, Memᴰ}
-use Prim.Native.Nat.{ℕ, suc, ◌+◌, ◌*◌, ◌≤◌, ◌<◌}
-use native.Mathlib.Omega.{arith}
-use lib.Dec.{eqb, ltb}
-use lib.ListN.{length, get_or}
-use borrow.Author.Tests.{ne_eqb, eqb-true, ltb-true, ltb-false}
+use Rattle.std.proofs.Common.{◌≡◌, ℕ, suc, ◌+◌, ◌*◌, ◌<◌, ◌≤◌, Bool, true, false, ◌||◌, eqb, ltb, List, [], ◌∷◌, length, get_or, sym, refl}
+use Rattle.std.proofs.Common.{ap, ◌∙◌, arith, ltb-false, ltb-true, ne_eqb, eqb-true}
+use mathlib.Core.Bool.{false≢true}
+use mathlib.Core.List.{Memᴰ}
 use Rattle.model.specs.Table.{Words}
 use Rattle.model.specs.Slots.{Slot, recording, recording_of, View}
 use Rattle.model.specs.Reached.{mapping}
@@ -39,13 +35,19 @@ off-absent cs r (s ∷ ps) a o =
     go true e h f = absurd (false≢true (sym o ∙ ap (off cs) (sym (eqb-true (recording s) r e)) ∙ f))
     go false e h f = h
 
-pub all-new : (v : View) (cs : Words) (rs : List ℕ) (b : Bool) → sound_view v ≡ true → Holds cs rs → b ≡ all (off_pair cs) (tree_pairs v) → b ≡ true → New (mapping v) rs
+pub all-new : (v : View) (cs : Words) (rs : List ℕ) (b : Bool) → sound_view v ≡ true → Holds cs rs → b ≡ all (off_pair cs) (tree_pairs v)
+    → b ≡ true → New (mapping v) rs
 all-new v cs rs b s h e q =
     let a : all (off_pair cs) (mapping v) ≡ true = ap (all (off_pair cs)) (sym (chain-mapping v (sound-in-order v s))) ∙ sym e ∙ q in
-    record { apart = h.apart; absent = mem-each (λ (r : ℕ). has_recording r (mapping v) ≡ false) rs (λ r m. off-absent cs r (mapping v) a (held-off cs rs r h m)) }
+    record {
+      apart = h.apart;
+      absent = mem-each (λ (r : ℕ). has_recording r (mapping v) ≡ false) rs
+          (λ r m. off-absent cs r (mapping v) a (held-off cs rs r h m));
+    }
 
 -- ---- as a batch goes on
 
+-- an empty range of pairs has no recording, so none that is there twice or in the map
 pub none-new : (ps : List Slot) (pairs : Words) (i j : ℕ) → j ≤ i → New ps (recordings_of pairs i j)
 unfolding distinct
 none-new ps pairs i j h = rw (recordings-none pairs i j h) (record { apart = refl; absent = tt })
@@ -53,10 +55,13 @@ none-new ps pairs i j h = rw (recordings-none pairs i j h) (record { apart = ref
 module _ (ps : List Slot) (pairs : Words) (i j : ℕ) (n : New ps (recordings_of pairs i j)) (m : 2 * i + 1 < length pairs) where
   -- the first is not in the map
   pub first-new : i < j → has_recording (recording_of (get_or pairs (2 * i + 1) 0)) ps ≡ false
-  first-new h = let u : New ps (recording_of (get_or pairs (2 * i + 1) 0) ∷ recordings_of pairs (suc i) j) = rw (recordings-next pairs i j h m) at n in u.absent.0
+  first-new h = let u : New ps (recording_of (get_or pairs (2 * i + 1) 0) ∷ recordings_of pairs (suc i) j) =
+      rw (recordings-next pairs i j h m) at n in u.absent.0
 
   -- once it is, the others are new
-  pub later-new : (ps' : List Slot) → ((x : ℕ) → has_recording x ps' ≡ (eqb (recording_of (get_or pairs (2 * i + 1) 0)) x || has_recording x ps)) → New ps' (recordings_of pairs (suc i) j)
+  pub later-new : (ps' : List Slot)
+      → ((x : ℕ) → has_recording x ps' ≡ (eqb (recording_of (get_or pairs (2 * i + 1) 0)) x || has_recording x ps))
+      → New ps' (recordings_of pairs (suc i) j)
   later-new ps' g = go (ltb i j) refl
     where
       go : (b : Bool) → ltb i j ≡ b → New ps' (recordings_of pairs (suc i) j)
@@ -70,5 +75,6 @@ module _ (ps : List Slot) (pairs : Words) (i j : ℕ) (n : New ps (recordings_of
             apart = d.1;
             absent = mem-each (λ (x : ℕ). has_recording x ps' ≡ false) rs (λ x k.
                 let z = (elem-none r rs).0 d.0 in
-                g x ∙ ap (λ (b : Bool). b || has_recording x ps) (ne_eqb r x (λ y. z (rw y k))) ∙ each-mem (λ (x : ℕ). has_recording x ps ≡ false) u.absent.1 k);
+                g x ∙ ap (λ (b : Bool). b || has_recording x ps) (ne_eqb r x (λ y. z (rw y k)))
+                ∙ each-mem (λ (x : ℕ). has_recording x ps ≡ false) u.absent.1 k);
           }

@@ -1,13 +1,8 @@
 -- Lists of pairs in the order of their keys: two are the same exactly if they are but for one key, and have the same pointer for that.
-use mathlib.Core.Path.{◌≡◌, refl, ap, sym, ◌∙◌}
-use mathlib.Core.Bool.{Bool, true, false, ◌&&◌, ◌||◌, false≢true}
-use mathlib.Core.Logic.{◌≢◌, ◌↔◌, ◌⊎◌, inl, inr}
-use mathlib.Core.List.{List, [], ◌∷◌}
+use Rattle.std.proofs.Common.{◌≡◌, ℕ, suc, ◌<◌, ◌≤◌, Bool, true, false, ◌&&◌, ◌||◌, eqb, ltb, ◌≢◌, ◌⊎◌, ◌↔◌, List, [], ◌∷◌, sym, refl, ap}
+use Rattle.std.proofs.Common.{◌∙◌, inl, inr, arith, ltb-false, ltb-true, le-ltb, lt-ltb, eq-eqb, ne_eqb, eqb-true}
+use mathlib.Core.Bool.{false≢true}
 use mathlib.Core.Option.{Option, none, some}
-use Prim.Native.Nat.{ℕ, suc, ◌≤◌, ◌<◌}
-use native.Mathlib.Omega.{arith}
-use lib.Dec.{eqb, ltb}
-use borrow.Author.Tests.{eqb-true, eq-eqb, ne_eqb, lt-ltb, le-ltb, ltb-true, ltb-false}
 use Rattle.std.specs.Prelude.{Option as Known, Some, None, is_some, unwrap_or}
 use Rattle.std.specs.Option.{option_eq}
 use Rattle.model.specs.Slots.{Slot, slot}
@@ -90,7 +85,8 @@ rising-enter k x lo (s ∷ ss) h m r = go (ltb k s.key) refl (λ h. rising-enter
     u = (rising-cons lo s ss).0 r
 
     go : (b : Bool) → ltb k s.key ≡ b → (suc s.key ≤ k → rising (suc s.key) (enter k x ss) ≡ true) → rising lo (enter k x (s ∷ ss)) ≡ true
-    go true q ih = rw (enter-below k x s ss (ltb-true k s.key q)) ((rising-cons lo (slot k x) (s ∷ ss)).1 (h, (rising-cons (suc k) s ss).1 (ltb-true k s.key q, u.1)))
+    go true q ih = rw (enter-below k x s ss (ltb-true k s.key q))
+        ((rising-cons lo (slot k x) (s ∷ ss)).1 (h, (rising-cons (suc k) s ss).1 (ltb-true k s.key q, u.1)))
     go false q ih =
         let l : s.key ≤ k = ltb-false k s.key q in
         let z : s.key ≢ k = m.0 in
@@ -125,10 +121,12 @@ same-pointer None (Some y) e = absurd (false≢true e)
 same-pointer (Some x) None e = absurd (false≢true e)
 same-pointer (Some x) (Some y) e = ap Some (eqb-true x y e)
 
+-- equal pointers, or two lacks of one, pass the test of equality
 pub own-pointer : (a b : Known ℕ) → a ≡ b → option_eq eqb a b ≡ true
 own-pointer a None e = rw e refl
 own-pointer a (Some y) e = rw e (eq-eqb y y refl)
 
+-- what fails the test of equality is not equal
 pub other-pointer : (a b : Known ℕ) → option_eq eqb a b ≡ false → a ≢ b
 other-pointer a b e q = false≢true (sym e ∙ own-pointer a b q)
 
@@ -138,18 +136,21 @@ above-misses : (k lo : ℕ) (ss : List Slot) → rising lo ss ≡ true → k < l
 above-misses k lo ss r h = Each-map (λ (s : Slot). lo ≤ s.key) (λ (s : Slot). s.key ≡ k → ⊥) ss (λ s l e. omega arith) (rising-from lo ss r)
 
 -- one list has the key first, the other does not
-one-sided : (k lo : ℕ) (p : Slot) (ps : List Slot) (q : Slot) (qs : List Slot) → rising lo (p ∷ ps) ≡ true → rising lo (q ∷ qs) ≡ true → p.key ≡ k → q.key ≢ k
+one-sided : (k lo : ℕ) (p : Slot) (ps : List Slot) (q : Slot) (qs : List Slot) → rising lo (p ∷ ps) ≡ true → rising lo (q ∷ qs)
+    ≡ true → p.key ≡ k → q.key ≢ k
     → leave k (p ∷ ps) ≡ leave k (q ∷ qs) → first_with k (p ∷ ps) ≡ first_with k (q ∷ qs) → ⊥
 one-sided k lo p ps q qs r s e z l f =
     let u = (rising-cons lo p ps).0 r in
     let w = (rising-cons lo q qs).0 s in
-    let a : ps ≡ q ∷ leave k qs = sym (leave-skip k p ps e ∙ leave-none k ps (above-misses k (suc p.key) ps u.1 (omega arith))) ∙ l ∙ leave-stay k q qs z in
+    let a : ps ≡ q ∷ leave k qs =
+    sym (leave-skip k p ps e ∙ leave-none k ps (above-misses k (suc p.key) ps u.1 (omega arith))) ∙ l ∙ leave-stay k q qs z in
     let b : suc p.key ≤ q.key = ((rising-cons (suc p.key) q (leave k qs)).0 (rw a at u.1)).0 in
     let c : first_with k (q ∷ qs) ≡ none = first-past k q qs z ∙ first-nil k qs (above-misses k (suc q.key) qs w.1 (omega arith)) in
     let d : some p ≡ none = sym (first-here k p ps e) ∙ f ∙ c in
     let o : ◌≡◌ {A = ℕ} 0 1 = cc in omega arith
 
-same-list : (k lo : ℕ) (ps qs : List Slot) → rising lo ps ≡ true → rising lo qs ≡ true → leave k ps ≡ leave k qs → first_with k ps ≡ first_with k qs → ps ≡ qs
+same-list : (k lo : ℕ) (ps qs : List Slot) → rising lo ps ≡ true → rising lo qs ≡ true → leave k ps ≡ leave k qs → first_with k ps
+    ≡ first_with k qs → ps ≡ qs
 unfolding leave first_with
 same-list k lo [] [] r s l f = refl
 same-list k lo [] (q ∷ qs) r s l f = absurd (go (same-or-not q.key k))
@@ -171,11 +172,13 @@ same-list k lo (p ∷ ps) (q ∷ qs) r s l f = go (same-or-not p.key k) (same-or
     w = (rising-cons lo q qs).0 s
 
     go : (p.key ≡ k) ⊎ (p.key ≢ k) → (q.key ≡ k) ⊎ (q.key ≢ k)
-        → ((lo : ℕ) → rising lo ps ≡ true → rising lo qs ≡ true → leave k ps ≡ leave k qs → first_with k ps ≡ first_with k qs → ps ≡ qs) → p ∷ ps ≡ q ∷ qs
+        → ((lo : ℕ) → rising lo ps ≡ true → rising lo qs ≡ true → leave k ps ≡ leave k qs → first_with k ps ≡ first_with k qs → ps ≡ qs) → p
+        ∷ ps ≡ q ∷ qs
     go (inl e) (inl d) ih =
         let a : some p ≡ some q = sym (first-here k p ps e) ∙ f ∙ first-here k q qs d in
         let b : p ≡ q = cc in
-        let c : ps ≡ qs = sym (leave-skip k p ps e ∙ leave-none k ps (above-misses k (suc p.key) ps u.1 (omega arith))) ∙ l ∙ leave-skip k q qs d ∙ leave-none k qs (above-misses k (suc q.key) qs w.1 (omega arith)) in
+        let c : ps ≡ qs = sym (leave-skip k p ps e ∙ leave-none k ps (above-misses k (suc p.key) ps u.1 (omega arith))) ∙ l
+        ∙ leave-skip k q qs d ∙ leave-none k qs (above-misses k (suc q.key) qs w.1 (omega arith)) in
         cc
     go (inl e) (inr z) ih = absurd (one-sided k lo p ps q qs r s e z l f)
     go (inr z) (inl e) ih = absurd (one-sided k lo q qs p ps s r e z (sym l) (sym f))
@@ -192,11 +195,13 @@ unfolding with_pointer
 with-leave k None ps = leave-none k (leave k ps) (leave-misses k ps)
 with-leave k (Some x) ps = leave-enter k x (leave k ps) (leave-misses k ps)
 
+-- after a key's pointer is set to x, or taken away, the key has x, or none
 pub with-held : (k : ℕ) (x : Known ℕ) (ps : List Slot) → held k (with_pointer k x ps) ≡ x
 unfolding with_pointer
 with-held k None ps = ap held_by (first-nil k (leave k ps) (leave-misses k ps))
 with-held k (Some x) ps =
-    let e : first_with k (enter k x (leave k ps)) ≡ some (slot k x) = enter-first k k x (leave k ps) ((has-key-iff k (leave k ps)).1 (leave-misses k ps)) ∙ rw (eq-eqb k k refl) in
+    let e : first_with k (enter k x (leave k ps)) ≡ some (slot k x) =
+    enter-first k k x (leave k ps) ((has-key-iff k (leave k ps)).1 (leave-misses k ps)) ∙ rw (eq-eqb k k refl) in
     ap held_by e
 
 with-rising : (k : ℕ) (x : Known ℕ) (ps : List Slot) → rising 0 ps ≡ true → rising 0 (with_pointer k x ps) ≡ true
@@ -211,7 +216,9 @@ module _ (k : ℕ) (ps qs : List Slot) (r : rising 0 ps ≡ true) (s : rising 0 
   unfolding same_but
   same-iff = (
     λ e. let d = (slots-same ps qs).0 e in (ap (held k) d, (slots-same (leave k ps) (leave k qs)).1 (ap (leave k) d)),
-    λ h. (slots-same ps qs).1 (same-list k 0 ps qs r s ((slots-same (leave k ps) (leave k qs)).0 h.1) (by-pointer k (first_with k ps) (first_with k qs) (first-keyed k ps) (first-keyed k qs) h.0)),
+    λ h. (slots-same ps qs).1
+        (same-list k 0 ps qs r s ((slots-same (leave k ps) (leave k qs)).0 h.1)
+        (by-pointer k (first_with k ps) (first_with k qs) (first-keyed k ps) (first-keyed k qs) h.0)),
   )
 
 module _ (k : ℕ) (x : Known ℕ) (old ps : List Slot) (o : rising 0 old ≡ true) (n : rising 0 ps ≡ true) where
@@ -221,8 +228,10 @@ module _ (k : ℕ) (x : Known ℕ) (old ps : List Slot) (o : rising 0 old ≡ tr
   new-iff : (same_slots ps (with_pointer k x old) ≡ true) ↔ ((held k ps ≡ x) × (same_but k ps old ≡ true))
   unfolding same_but
   new-iff =
-      let i = same-iff k ps (with_pointer k x old) n (with-rising k x old o) in
-      (λ e. let u = i.0 e in (u.0 ∙ with-held k x old, rw (with-leave k x old) at u.1), λ h. i.1 (h.0 ∙ sym (with-held k x old), rw (with-leave k x old) h.1))
+      let i = same-iff k ps (with_pointer k x old) n (with-rising k x old o) in (
+        λ e. let u = i.0 e in (u.0 ∙ with-held k x old, rw (with-leave k x old) at u.1),
+        λ h. i.1 (h.0 ∙ sym (with-held k x old), rw (with-leave k x old) h.1),
+      )
 
   -- the pointer is another one than the old, and none may change it, or it is not the new one
   pub not-own : held k ps ≢ held k old → false ≡ old_or_new false k x old ps
@@ -248,7 +257,8 @@ module _ (k : ℕ) (x : Known ℕ) (old ps : List Slot) (o : rising 0 old ≡ tr
   unfolding old_or_new
   as-old own e = go own (same_but k ps old) (same_slots ps old) (same_slots ps (with_pointer k x old)) refl refl refl
     where
-      go : (own a b c : Bool) → same_but k ps old ≡ a → same_slots ps old ≡ b → same_slots ps (with_pointer k x old) ≡ c → a ≡ b || (own && c)
+      go : (own a b c : Bool) → same_but k ps old ≡ a → same_slots ps old ≡ b → same_slots ps (with_pointer k x old)
+          ≡ c → a ≡ b || (own && c)
       go own true true c p q r = refl
       go own true false c p q r = absurd (false≢true (sym q ∙ old-iff.1 (e, p)))
       go own false true c p q r = absurd (false≢true (sym p ∙ (old-iff.0 q).1))
@@ -271,7 +281,8 @@ module _ (k : ℕ) (x : Known ℕ) (old ps : List Slot) (o : rising 0 old ≡ tr
 -- the pointer that it has: nothing changes
 pub with-same : (k : ℕ) (x : Known ℕ) (ps : List Slot) → rising 0 ps ≡ true → held k ps ≡ x → with_pointer k x ps ≡ ps
 unfolding same_but
-with-same k x ps o e = sym ((slots-same ps (with_pointer k x ps)).0 ((new-iff k x ps ps o o).1 (e, (slots-same (leave k ps) (leave k ps)).1 refl)))
+with-same k x ps o e =
+    sym ((slots-same ps (with_pointer k x ps)).0 ((new-iff k x ps ps o o).1 (e, (slots-same (leave k ps) (leave k ps)).1 refl)))
 
 -- a key that is not there enters
 pub with-enters : (k x : ℕ) (ps : List Slot) → has_key k ps ≡ false → with_pointer k (Some x) ps ≡ enter k x ps

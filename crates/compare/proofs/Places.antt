@@ -1,11 +1,8 @@
 -- Places among the pairs of a tree: where one goes on, the pairs from there, and two places side by side.
-use mathlib.Core.Path.{◌≡◌, refl, ap, sym, ◌∙◌}
-use mathlib.Core.Bool.{Bool, true, false, not, ◌&&◌, and_assoc, false≢true}
-use mathlib.Core.List.{List, [], ◌∷◌, ◌++◌}
-use Prim.Native.Nat.{ℕ, suc, ◌-◌, ◌≤◌, ◌<◌}
-use native.Mathlib.Omega.{arith}
-use lib.Dec.{eqb}
-use borrow.Author.Tests.{eqb-true, eqb-false, leb-true, leb-false, le-leb, lt-leb}
+use Rattle.std.proofs.Common.{◌≡◌, ℕ, suc, ◌-◌, ◌<◌, ◌≤◌, Bool, true, false, not, ◌&&◌, eqb, List, [], ◌∷◌, ◌++◌, sym, refl, ap, ◌∙◌, arith}
+use Rattle.std.proofs.Common.{eqb-true, le-leb, leb-false, leb-true}
+use mathlib.Core.Bool.{and_assoc, false≢true}
+use borrow.Author.Tests.{eqb-false, lt-leb}
 use Rattle.model.specs.Table.{Words, at, nodes}
 use Rattle.model.specs.Slots.{Slot, View, node_view, view_from, view}
 use Rattle.model.specs.Search.{below}
@@ -57,7 +54,8 @@ module _ (c : Cursor) where
     unfolding goes_on
     leaf-follows g e = go (eqb c.next 0) (eqb c.left 0) refl refl (rw e at g)
       where
-        go : (a b : Bool) → eqb c.next 0 ≡ a → eqb c.left 0 ≡ b → not (eqb c.next 0) && not (eqb c.left 0) ≡ true → (c.next ≡ 0 → ⊥) × (c.left ≡ 0 → ⊥)
+        go : (a b : Bool) → eqb c.next 0 ≡ a → eqb c.left 0 ≡ b → not (eqb c.next 0) && not (eqb c.left 0) ≡ true
+            → (c.next ≡ 0 → ⊥) × (c.left ≡ 0 → ⊥)
         go false false p q h = (eqb-false c.next 0 p, eqb-false c.left 0 q)
         go true b p q h = absurd (false≢true (rw p at h))
         go false true p q h = absurd (false≢true (rw (p, q) at h))
@@ -83,7 +81,8 @@ module _ (v : View) (c : Cursor) where
       go false false p q = absurd (false≢true (sym (rw (at-end-of c h, p, q) at g)))
 
 -- a leaf loaded
-pub pairs-load : (t : Words) (c : Cursor) (w : Ways) (n : ℕ) → c.ways.count ≤ c.at → (c.next ≡ 0 → ⊥) → (c.left ≡ 0 → ⊥) → slots_in w ≡ ways (view t) c.next → n ≡ word_of t c.next 1
+pub pairs-load : (t : Words) (c : Cursor) (w : Ways) (n : ℕ) → c.ways.count ≤ c.at → (c.next ≡ 0 → ⊥) → (c.left ≡ 0 → ⊥) → slots_in w
+    ≡ ways (view t) c.next → n ≡ word_of t c.next 1
     → pairs_at (view t) (record { ways = w; at = 1; next = n; left = c.left - 1 }) ≡ pairs_at (view t) c
 unfolding flat pairs_at
 pairs-load t c w n h z y e q =
@@ -92,7 +91,8 @@ pairs-load t c w n h z y e q =
     let sibling : (node_view t c.next).sibling ≡ n = sym (q ∙ word-sibling t c.next) in
     let first : along v c.left c.next ≡ c.next ∷ along v (c.left - 1) n =
     ap (λ (k : ℕ). along v k c.next) more ∙ along-more v (c.left - 1) c.next z ∙ ap (λ (k : ℕ). c.next ∷ along v (c.left - 1) k) sibling in
-    ap (λ (ss : List Slot). ss ++ pairs_along v (c.left - 1) n) (kept-ways t (at t 1) c.next w e) ∙ sym (ap (flat (kept v)) first) ∙ sym (leaf-done v c h)
+    ap (λ (ss : List Slot). ss ++ pairs_along v (c.left - 1) n) (kept-ways t (at t 1) c.next w e)
+    ∙ sym (ap (flat (kept v)) first) ∙ sym (leaf-done v c h)
 
 -- before the first pair
 any-pairs : (t : Words) (r q left leaf : ℕ) → pairs_along (view_from t r) left leaf ≡ pairs_along (view_from t q) left leaf
@@ -100,10 +100,12 @@ unfolding along kept below
 any-pairs t r q left leaf = refl
 
 pub pairs-start : (t : Words) (r : ℕ) (ks ps : Words) (few : 0 ≤ 13) (n left : ℕ) → n ≡ first_leaf (view_from t r) → left ≡ nodes t
-    → pairs_at (view t) (record { ways = record { count = 0; keys = ks; pointers = ps; count_bound = few }; at = 0; next = n; left = left }) ≡ all_pairs (view_from t r)
+    → pairs_at (view t) (record { ways = record { count = 0; keys = ks; pointers = ps; count_bound = few }; at = 0; next = n; left = left })
+    ≡ all_pairs (view_from t r)
 pairs-start t r ks ps few n left e q =
     let v = view_from t r in
-    leaf-done (view t) (record { ways = record { count = 0; keys = ks; pointers = ps; count_bound = few }; at = 0; next = n; left = left }) (omega arith)
+    leaf-done (view t) (record { ways = record { count = 0; keys = ks; pointers = ps; count_bound = few }; at = 0; next = n; left = left })
+    (omega arith)
     ∙ any-pairs t (at t 1) r left n ∙ ap (flat (kept v)) (whole-is v n left e q)
 
 -- ---- the pairs but for a key
@@ -128,7 +130,8 @@ module _ (v : View) (k : ℕ) (c : Cursor) where
 -- ---- two places side by side
 
 -- from the first pairs of two trees on
-pub compared-all : (v w : View) (k : ℕ) (a a₀ b b₀ : Cursor) {ps qs : List Slot} → leave k (pairs_at v a) ≡ leave k (pairs_at v a₀) → pairs_at v a₀ ≡ ps → leave k (pairs_at w b) ≡ leave k (pairs_at w b₀)
+pub compared-all : (v w : View) (k : ℕ) (a a₀ b b₀ : Cursor) {ps qs : List Slot} → leave k (pairs_at v a) ≡ leave k (pairs_at v a₀)
+    → pairs_at v a₀ ≡ ps → leave k (pairs_at w b) ≡ leave k (pairs_at w b₀)
     → pairs_at w b₀ ≡ qs → same_but k (pairs_at v a) (pairs_at w b) ≡ same_but k ps qs
 unfolding same_but
 compared-all v w k a a₀ b b₀ x p y q = rw (x, y) (rw (p, q) refl)
@@ -183,7 +186,8 @@ module _ {v w : View} {k : ℕ} {r : Bool} {a b : Cursor} (q : Comparing v w k r
           go true p h = absurd (false≢true (rw p at h))
           go false p h = a-pair b p
 
-      pub compared-next : s ≡ true → (a' b' : Cursor) → leave k (pairs_at v a') ≡ leave k (pairs_at v (past a)) → leave k (pairs_at w b') ≡ leave k (pairs_at w (past b))
+      pub compared-next : s ≡ true → (a' b' : Cursor) → leave k (pairs_at v a') ≡ leave k (pairs_at v (past a)) → leave k (pairs_at w b')
+          ≡ leave k (pairs_at w (past b))
           → same_but k (pairs_at v a') (pairs_at w b') ≡ r
       unfolding same_but
       compared-next z a' b' x y = rw (x, y) (ap (λ (c : Bool). c && rest) (sym z ∙ e) ∙ compared-step)

@@ -1,16 +1,10 @@
 -- Many insertions in one call, whole or cut: a batch is the insertions of its first pairs, so demand 3 holds of histories with batches.
-use mathlib.Core.Path.{◌≡◌, refl, sym, ap, ◌∙◌}
-use mathlib.Core.Logic.{◌≢◌, inl, inr}
-use mathlib.Core.Bool.{Bool, true, false, cond}
-use mathlib.Core.List.{List, [], ◌∷◌, ◌++◌, map, append_assoc}
+use Rattle.std.proofs.Common.{◌≡◌, ℕ, zero, suc, ◌+◌, ◌-◌, ◌*◌, ◌<◌, ◌≤◌, Bool, true, false, cond, eqb, leb, ◌≢◌, List, [], ◌∷◌, ◌++◌, map}
+use Rattle.std.proofs.Common.{length, take, drop, sym, refl, ap, ◌∙◌, inl, inr, append_assoc, arith, length-append, length-drop, drop-drop}
+use Rattle.std.proofs.Common.{take_at, drop_at, leb-false, leb-true}
 use mathlib.Core.Option
 use mathlib.Core.Option.{Option, none, some}
-use Prim.Native.Nat.{ℕ, zero, suc, ◌+◌, ◌*◌, ◌-◌, ◌≤◌, ◌<◌}
-use native.Mathlib.Omega.{arith}
-use lib.Dec.{eqb, leb}
-use lib.ListN.{length, take, drop, length-append, length-drop}
-use lib.Seq.{take-length, take-append-add, take-append-le, take_at, drop_at, drop-drop}
-use borrow.Author.Tests.{leb-true, leb-false}
+use lib.Seq.{take-length, take-append-add, take-append-le}
 use Rattle.std.specs.Prelude as rust
 use Rattle.std.specs.Prelude.{Some, None, Ok}
 use Rattle.model.specs.declared.Refusal.{Refusal}
@@ -23,7 +17,8 @@ use Rattle.model.specs.Slots.{Slot, recording, class, pointer_of}
 use Rattle.model.specs.Reached.{flat, Maps, maps_of}
 use Rattle.model.specs.SoundTest.{sound}
 use Rattle.model.specs.Sound.{Sound}
-use Rattle.model.specs.Orders.{Store, Order, apply, carry, orders, barred, encode, decode, list_with, store_count, flush_count, barrier_count, all_inside, carry_number, carried_out}
+use Rattle.model.specs.Orders.{Store, Order, apply, carry, orders, barred, encode, decode, list_with, store_count, flush_count}
+use Rattle.model.specs.Orders.{barrier_count, all_inside, carry_number, carried_out}
 use Rattle.model.specs.Cuts.{flushed, up_to_flush, later_stores, FirstPart, Holds, Image, CutImage}
 use Rattle.model.specs.Judge.{AllFlushed}
 use Rattle.model.specs.Writes.{Call, stores_of}
@@ -31,15 +26,19 @@ use Rattle.model.specs.Refusals.{refusal, unless_refused, orders_of, written, ta
 use Rattle.model.specs.Ledger.{Ledger, enter, on_map}
 use Rattle.model.specs.Demand3.{Fate, whole, cut, Event, History, State, both, number_of, step, run_from, FateMay, MayFrom, ledger_from}
 use Rattle.model.specs.Batch.{insertion_of, Batched, stopped, behind, batch}
-use Rattle.model.specs.Batches.{batch_answered, batch_orders, after_batch, BatchMay, calls_in, AllAccepted, AllWhole, WholeBefore, FatesBy, PairsBy, Stops, StopsBy, Singles, enter_all, RightBatch, Batches}
+use Rattle.model.specs.Batches.{batch_answered, batch_orders, after_batch, BatchMay, calls_in, AllAccepted, AllWhole, WholeBefore, FatesBy}
+use Rattle.model.specs.Batches.{PairsBy, Stops, StopsBy, Singles, enter_all, RightBatch, Batches}
 use Rattle.list_laws.proofs.Tools.{and-iff}
 use Rattle.list_laws.proofs.Recordings.{pointer-of}
-use Rattle.cut_laws.proofs.Applying.{apply-agree, length-apply, length-carry, carry-append, counts-length, store_count-append, flush_count-append, barrier_count-append}
+use Rattle.cut_laws.proofs.Applying.{apply-agree, length-apply, length-carry, carry-append, counts-length, store_count-append}
+use Rattle.cut_laws.proofs.Applying.{flush_count-append, barrier_count-append}
 use Rattle.cut_laws.proofs.Barriers.{barred-append, barred-nil, barred-inside}
-use Rattle.cut_laws.proofs.LastFlush.{up_to_flush-nil, up_to_flush-after, later_stores-after, up_to_flush-before, later_stores-before, line-current}
+use Rattle.cut_laws.proofs.LastFlush.{up_to_flush-nil, up_to_flush-after, later_stores-after, up_to_flush-before, later_stores-before}
+use Rattle.cut_laws.proofs.LastFlush.{line-current}
 use Rattle.cut_laws.proofs.Docks.{barred-images, list-flushed, list-apply}
 use Rattle.cut_laws.proofs.Cuts.{image-at-none}
-use Rattle.cut_laws.proofs.Lent.{length-encode, encode-append, list_with-nil, carry-list-all, header-length, orders-inside, read-back, listed-number, listed-carried}
+use Rattle.cut_laws.proofs.Lent.{length-encode, encode-append, list_with-nil, carry-list-all, header-length, orders-inside, read-back}
+use Rattle.cut_laws.proofs.Lent.{listed-number, listed-carried}
 use Rattle.two_laws.proofs.MapsTwo.{Steps, accepted-steps, sound-after}
 use Rattle.two_laws.proofs.SearchTwo.{sound-head}
 use Rattle.two_laws.proofs.LedgerTwo.{number-in-ledger}
@@ -56,7 +55,8 @@ batch_stores : (n dock : ℕ) → List Slot → (list t : Words) → List (List 
 batch_stores n dock [] list t = []
 batch_stores n dock (s ∷ ss) list t =
     let x = insertion_of n s in
-    unless_refused (refusal x (length list) dock t) (stores_of x t ∷ batch_stores n dock ss (drop (2 * length (orders_of x dock t)) list) (apply (stores_of x t) t)) []
+    unless_refused (refusal x (length list) dock t)
+    (stores_of x t ∷ batch_stores n dock ss (drop (2 * length (orders_of x dock t)) list) (apply (stores_of x t) t)) []
 
 -- the single calls' lists one after another
 abbrev all_orders : (n dock : ℕ) → List Slot → (list t : Words) → List Order
@@ -78,31 +78,38 @@ module _ (a b : List Order) (t m : Words) (f : AllFlushed a) where
       go l true e (part, (n, p), h) = (
         part,
         (n, p ∙ ap (take n) (later_stores-after l b e a)),
-        λ w k. h w k ∙ ap (λ (os : List Order). at (apply part (carry os t)) w) (up_to_flush-after l b e a) ∙ ap (λ (u : Words). at (apply part u) w) (carry-append a (up_to_flush l b) t),
+        λ w k. h w k ∙ ap (λ (os : List Order). at (apply part (carry os t)) w) (up_to_flush-after l b e a)
+            ∙ ap (λ (u : Words). at (apply part u) w) (carry-append a (up_to_flush l b) t),
       )
       go l false e (part, (n, p), h) = (
         part,
         (n, p ∙ ap (take n) (later_stores-before l b e a ∙ ap (λ (ss : List Store). ss ++ later_stores l b) (f l))),
         λ w k.
             h w k ∙ ap (λ (os : List Order). at (apply part (carry os t)) w) (up_to_flush-before l b e a)
-            ∙ apply-agree part (carry (up_to_flush l a) t) (carry a t) w (length-carry (up_to_flush l a) t ∙ sym (length-carry a t)) (rw k at (line-whole w))
-            ∙ sym (ap (λ (os : List Order). at (apply part (carry os (carry a t))) w) (up_to_flush-nil l b e) ∙ ap (λ (u : Words). at (apply part u) w) (unfold carry in refl)),
+            ∙ apply-agree part (carry (up_to_flush l a) t) (carry a t) w (length-carry (up_to_flush l a) t ∙ sym (length-carry a t))
+            (rw k at (line-whole w))
+            ∙ sym (ap (λ (os : List Order). at (apply part (carry os (carry a t))) w) (up_to_flush-nil l b e)
+            ∙ ap (λ (u : Words). at (apply part u) w) (unfold carry in refl)),
       )
 
 -- A cut behind the whole list of some stores is a cut of what follows, on the table that the stores leave.
-cut-behind : (dock c : ℕ) (ss : List Store) (later : List Order) (t m : Words) → CutImage dock (length (barred dock (orders ss)) + c) t (barred dock (orders ss ++ later)) m
+cut-behind : (dock c : ℕ) (ss : List Store) (later : List Order) (t m : Words)
+    → CutImage dock (length (barred dock (orders ss)) + c) t (barred dock (orders ss ++ later)) m
     → CutImage dock c (apply ss t) (barred dock later) m
 cut-behind dock c ss later t m i =
     let a = barred dock (orders ss) in
     let e : take (length a + c) (barred dock (orders ss ++ later)) ≡ a ++ take c (barred dock later) =
     ap (take (length a + c)) (barred-append dock (orders ss) later) ∙ take-append-add a (barred dock later) c in
     let j : Image 0 t (a ++ take c (barred dock later)) m = rw e at ((barred-images dock (length a + c) t (orders ss ++ later) m).0 i) in
-    (barred-images dock c (apply ss t) later m).1 (rw (list-apply dock ss t) at (image-behind a (take c (barred dock later)) t m (list-flushed dock ss) j))
+    (barred-images dock c (apply ss t) later m).1
+    (rw (list-apply dock ss t) at (image-behind a (take c (barred dock later)) t m (list-flushed dock ss) j))
 
 -- A cut within it is a cut of it.
-cut-within : (dock c : ℕ) (ss : List Store) (later : List Order) (t m : Words) → c ≤ length (barred dock (orders ss)) → CutImage dock c t (barred dock (orders ss ++ later)) m
+cut-within : (dock c : ℕ) (ss : List Store) (later : List Order) (t m : Words) → c ≤ length (barred dock (orders ss))
+    → CutImage dock c t (barred dock (orders ss ++ later)) m
     → CutImage dock c t (barred dock (orders ss)) m
-cut-within dock c ss later t m h i = rw (ap (take c) (barred-append dock (orders ss) later) ∙ take-append-le c (barred dock (orders ss)) (barred dock later) h) at i
+cut-within dock c ss later t m h i =
+    rw (ap (take c) (barred-append dock (orders ss) later) ∙ take-append-le c (barred dock (orders ss)) (barred dock later) h) at i
 
 -- ---- events one after another
 
@@ -111,12 +118,14 @@ unfolding run_from
 run-first s e [] = refl
 run-first s e (f ∷ es) = ap (λ (u : State). step u f) (run-first s e es)
 
-may-first : (s : State) (e : Event) (es : History) → (number_of s e ≡ 0 → FateMay e.fate s e) → MayFrom (step s e) es → MayFrom s (es ++ (e ∷ []))
+may-first : (s : State) (e : Event) (es : History) → (number_of s e ≡ 0 → FateMay e.fate s e) → MayFrom (step s e) es
+    → MayFrom s (es ++ (e ∷ []))
 unfolding run_from MayFrom
 may-first s e [] p q = (tt, p)
 may-first s e (f ∷ es) p q = (may-first s e es p q.0, rw (run-first s e es) q.1)
 
-accepted-first : (s : State) (dock : ℕ) (e : Event) (es : History) → (number_of s e ≡ 0) × (e.dock ≡ dock) × (e.slice ≡ none) → AllAccepted (step s e) dock es
+accepted-first : (s : State) (dock : ℕ) (e : Event) (es : History) → (number_of s e ≡ 0) × (e.dock ≡ dock) × (e.slice ≡ none)
+    → AllAccepted (step s e) dock es
     → AllAccepted s dock (es ++ (e ∷ []))
 unfolding run_from
 accepted-first s dock e [] p q = (tt, p.0, p.1, p.2)
@@ -168,12 +177,15 @@ record Ways (n dock : ℕ) (ss : List Slot) (t : Words) (f : Fate) (taken : ℕ)
   comes-to : run_from (both t) events ≡ s'
 
 -- no pair
-no-ways : (n dock : ℕ) (ss : List Slot) (t : Words) (f : Fate) (taken : ℕ) (m : Words) → FatesBy f [] → PairsBy f 0 taken → t ≡ m → Ways n dock ss t f taken (both m)
+no-ways : (n dock : ℕ) (ss : List Slot) (t : Words) (f : Fate) (taken : ℕ) (m : Words) → FatesBy f [] → PairsBy f 0 taken → t ≡ m
+    → Ways n dock ss t f taken (both m)
 unfolding run_from MayFrom
-no-ways n dock ss t f taken m a p e = record { events = []; pairs = 0; calls-are = refl; pairs-are = p; accepted = tt; fates = a; may = tt; comes-to = ap both e }
+no-ways n dock ss t f taken m a p e =
+    record { events = []; pairs = 0; calls-are = refl; pairs-are = p; accepted = tt; fates = a; may = tt; comes-to = ap both e }
 
 -- one pair first, whole
-ways-first : (n dock : ℕ) (x : Slot) (ss : List Slot) (list t t₁ : Words) (f : Fate) (taken : ℕ) (s' : State) → refusal (insertion_of n x) (length list) dock t ≡ 0
+ways-first : (n dock : ℕ) (x : Slot) (ss : List Slot) (list t t₁ : Words) (f : Fate) (taken : ℕ) (s' : State)
+    → refusal (insertion_of n x) (length list) dock t ≡ 0
     → step (both t) (pair_event n dock list whole x) ≡ both t₁ → Ways n dock ss t₁ f taken s' → Ways n dock (x ∷ ss) t f (1 + taken) s'
 ways-first n dock x ss list t t₁ f taken s' ok q v =
     let e = pair_event n dock list whole x in
@@ -188,8 +200,19 @@ ways-first n dock x ss list t t₁ f taken s' ok q v =
       comes-to = run-first (both t) e v.events ∙ rw q v.comes-to;
     }
 
-other-cut : (n dock : ℕ) (ss : List Slot) (t : Words) (c d : ℕ) (m : Words) (taken : ℕ) (s' : State) → Ways n dock ss t (cut c m) taken s' → Ways n dock ss t (cut d m) taken s'
-other-cut n dock ss t c d m taken s' v = record { events = v.events; pairs = v.pairs; calls-are = v.calls-are; pairs-are = v.pairs-are; accepted = v.accepted; fates = v.fates; may = v.may; comes-to = v.comes-to }
+other-cut : (n dock : ℕ) (ss : List Slot) (t : Words) (c d : ℕ) (m : Words) (taken : ℕ) (s' : State) → Ways n dock ss t (cut c m) taken s'
+    → Ways n dock ss t (cut d m) taken s'
+other-cut n dock ss t c d m taken s' v =
+    record {
+      events = v.events;
+      pairs = v.pairs;
+      calls-are = v.calls-are;
+      pairs-are = v.pairs-are;
+      accepted = v.accepted;
+      fates = v.fates;
+      may = v.may;
+      comes-to = v.comes-to;
+    }
 
 -- ---- the first pair
 
@@ -199,7 +222,8 @@ unfolding list_with
 list-joined a b list =
     let e : 2 * length a + 2 * length b ≡ 2 * length (a ++ b) = omega (arith, length-append a b) in
     ap (λ (l : Words). encode a ++ (encode b ++ l)) (drop-drop (2 * length b) (2 * length a) list ∙ ap (λ (k : ℕ). drop k list) e)
-    ∙ sym (append_assoc (encode a) (encode b) (drop (2 * length (a ++ b)) list)) ∙ ap (λ (l : Words). l ++ drop (2 * length (a ++ b)) list) (sym (encode-append a b))
+    ∙ sym (append_assoc (encode a) (encode b) (drop (2 * length (a ++ b)) list))
+    ∙ ap (λ (l : Words). l ++ drop (2 * length (a ++ b)) list) (sym (encode-append a b))
 
 inside-append : (n : ℕ) (a b : List Order) → all_inside n a ≡ true → all_inside n b ≡ true → all_inside n (a ++ b) ≡ true
 unfolding all_inside
@@ -269,13 +293,16 @@ module _ (n dock : ℕ) (s : Slot) (ss : List Slot) (list t : Words) where
 
       step-whole : step (both t) (pair_event n dock list whole s) ≡ both t₁
       unfolding step written list_after table_after
-      step-whole = rw (ok, counts-length own) (ap (λ (m : Words). record { memory = m; working = t₁ }) (carry-list-all dock us list t (sound-head t fine) steps.stores-inside))
+      step-whole = rw (ok, counts-length own)
+          (ap (λ (m : Words). record { memory = m; working = t₁ }) (carry-list-all dock us list t (sound-head t fine) steps.stores-inside))
 
       own-inside : all_inside (length t) own ≡ true
-      own-inside = barred-inside dock (length t) (orders us) ∙ orders-inside (length t) us (header-length t (sound-head t fine)).0 steps.stores-inside
+      own-inside = barred-inside dock (length t) (orders us)
+          ∙ orders-inside (length t) us (header-length t (sound-head t fine)).0 steps.stores-inside
 
       -- a cut within its orders
-      cut-here : (c : ℕ) (m : Words) (taken : ℕ) → c ≤ length own → CutImage dock c t own m → Ways n dock (s ∷ ss) t (cut c m) (1 + taken) (both m)
+      cut-here : (c : ℕ) (m : Words) (taken : ℕ) → c ≤ length own → CutImage dock c t own m
+          → Ways n dock (s ∷ ss) t (cut c m) (1 + taken) (both m)
       unfolding run_from MayFrom
       cut-here c m taken l i =
           let e = pair_event n dock list (cut c m) s in
@@ -314,7 +341,8 @@ abbrev StopsAt : (n dock words number : ℕ) → Words → List Slot → Type 0
 StopsAt n dock words number u [] = number ≡ 0
 StopsAt n dock words number u (s ∷ ss) = (number ≢ 0) × (number ≡ refusal (insertion_of n s) words dock u)
 
-stops-same : (n dock a b number : ℕ) (u : Words) (l k : List Slot) → a ≡ b → l ≡ k → StopsAt n dock a number u l → StopsAt n dock b number u k
+stops-same : (n dock a b number : ℕ) (u : Words) (l k : List Slot) → a ≡ b → l ≡ k → StopsAt n dock a number u l
+    → StopsAt n dock b number u k
 stops-same n dock a b number u l k e f p = rw (e, f) at p
 
 -- changes of one map one after another
@@ -324,7 +352,10 @@ module _ (n : ℕ) (f g : List Slot → List Slot) (m : Maps) where
   on-map-join = go (eqb n 1) m.one m.two
     where
       go : (b : Bool) (a : List Slot) (o : Option (List Slot))
-          → ◌≡◌ {A = Maps} (record { one = cond b (f (cond b (g a) a)) (cond b (g a) a); two = cond b (cond b o (Option.map g o)) (Option.map f (cond b o (Option.map g o))) })
+          → ◌≡◌ {A = Maps} (record {
+            one = cond b (f (cond b (g a) a)) (cond b (g a) a);
+            two = cond b (cond b o (Option.map g o)) (Option.map f (cond b o (Option.map g o)));
+          })
           (record { one = cond b (f (g a)) a; two = cond b o (Option.map (λ (ps : List Slot). f (g ps)) o) })
       go true a o = refl
       go false a none = refl
@@ -335,7 +366,8 @@ module _ (n : ℕ) (f g : List Slot → List Slot) (m : Maps) where
   on-map-same e = go (eqb n 1) m.one m.two
     where
       go : (b : Bool) (a : List Slot) (o : Option (List Slot))
-          → ◌≡◌ {A = Maps} (record { one = cond b (f a) a; two = cond b o (Option.map f o) }) (record { one = cond b (g a) a; two = cond b o (Option.map g o) })
+          → ◌≡◌ {A = Maps} (record { one = cond b (f a) a; two = cond b o (Option.map f o) })
+          (record { one = cond b (g a) a; two = cond b o (Option.map g o) })
       go true a o = ap (λ (ps : List Slot). record { one = ps; two = o }) (e a)
       go false a none = refl
       go false a (some ps) = ap (λ (qs : List Slot). record { one = a; two = some qs }) (e ps)
@@ -344,7 +376,8 @@ on-map-id : (n : ℕ) (f : List Slot → List Slot) (m : Maps) → ((ps : List S
 unfolding on_map
 on-map-id n f m e = on-map-same n f (λ (ps : List Slot). ps) m e ∙ go (eqb n 1) m.one m.two
   where
-    go : (b : Bool) (a : List Slot) (o : Option (List Slot)) → ◌≡◌ {A = Maps} (record { one = cond b a a; two = cond b o (Option.map (λ (ps : List Slot). ps) o) }) (record { one = a; two = o })
+    go : (b : Bool) (a : List Slot) (o : Option (List Slot))
+        → ◌≡◌ {A = Maps} (record { one = cond b a a; two = cond b o (Option.map (λ (ps : List Slot). ps) o) }) (record { one = a; two = o })
     go true a o = refl
     go false a none = refl
     go false a (some ps) = refl
@@ -369,7 +402,8 @@ record Facts (n dock : ℕ) (ss : List Slot) (list t : Words) (r : Batched) (os 
   stops : StopsAt n dock (length list - 2 * batch_answered r) (stop_number r.answer.stop) r.table (drop r.answer.taken ss)
 
 -- nothing was taken
-facts-none : (n dock : ℕ) (ss : List Slot) (list t : Words) (stop : rust.Option Refusal) → sound t ≡ true → StopsAt n dock (length list) (stop_number stop) t ss → Facts n dock ss list t (stopped stop list t) []
+facts-none : (n dock : ℕ) (ss : List Slot) (list t : Words) (stop : rust.Option Refusal) → sound t ≡ true
+    → StopsAt n dock (length list) (stop_number stop) t ss → Facts n dock ss list t (stopped stop list t) []
 unfolding store_count flush_count barrier_count all_inside carry
 facts-none n dock ss list t stop s e = record {
   list-is = sym (list_with-nil list);
@@ -384,8 +418,10 @@ facts-none n dock ss list t stop s e = record {
 }
 
 -- one pair first
-facts-first : (n dock : ℕ) (s : Slot) (ss : List Slot) (list t : Words) (r : Batched) (os : List Order) → sound t ≡ true → refusal (insertion_of n s) (length list) dock t ≡ 0
-    → (let own = orders_of (insertion_of n s) dock t in Facts n dock ss (drop (2 * length own) list) (apply (stores_of (insertion_of n s) t) t) r os
+facts-first : (n dock : ℕ) (s : Slot) (ss : List Slot) (list t : Words) (r : Batched) (os : List Order) → sound t ≡ true
+    → refusal (insertion_of n s) (length list) dock t ≡ 0
+    → (let own = orders_of (insertion_of n s) dock t in Facts n dock ss (drop (2 * length own) list)
+    (apply (stores_of (insertion_of n s) t) t) r os
     → Facts n dock (s ∷ ss) list t (behind 1 (counts_in own) (encode own) r) (own ++ os))
 facts-first n dock s ss list t r os fine ok v =
     let x = insertion_of n s in
@@ -404,24 +440,28 @@ facts-first n dock s ss list t r os fine ok v =
           ∙ on-map-join n (enter_all (take r.answer.taken ss)) (enter s.key (pointer_of (recording s) (class s))) (maps_of t)
           ∙ on-map-same n _ (enter_all (take (1 + r.answer.taken) (s ∷ ss))) (maps_of t) (enter-first s ss r.answer.taken);
       stops =
-          let words : length (drop (2 * length own) list) - 2 * batch_answered r ≡ length list - 2 * batch_answered (behind 1 (counts_in own) (encode own) r) =
+          let words : length (drop (2 * length own) list) - 2 * batch_answered r
+          ≡ length list - 2 * batch_answered (behind 1 (counts_in own) (encode own) r) =
           omega (arith, length-drop (2 * length own) list, counts-length own) in
           let one : suc r.answer.taken ≡ 1 + r.answer.taken = omega arith in
-          stops-same n dock _ _ (stop_number r.answer.stop) r.table (drop r.answer.taken ss) _ words (ap (λ (k : ℕ). drop k (s ∷ ss)) one) v.stops;
+          stops-same n dock _ _ (stop_number r.answer.stop) r.table (drop r.answer.taken ss) _ words
+          (ap (λ (k : ℕ). drop k (s ∷ ss)) one) v.stops;
     }
 
 none-orders : (n dock : ℕ) (list t : Words) → all_orders n dock [] list t ≡ []
 unfolding batch_stores flat
 none-orders n dock list t = barred-nil dock
 
-facts : (n dock : ℕ) (ss : List Slot) (list t : Words) → sound t ≡ true → Facts n dock ss list t (batch n dock ss list t) (all_orders n dock ss list t)
+facts : (n dock : ℕ) (ss : List Slot) (list t : Words) → sound t ≡ true
+    → Facts n dock ss list t (batch n dock ss list t) (all_orders n dock ss list t)
 facts n dock [] list t fine = rw (batch-none n dock list t, none-orders n dock list t) (facts-none n dock [] list t None fine refl)
 facts n dock (s ∷ ss) list t fine = go (refusal (insertion_of n s) (length list) dock t) refl (facts n dock ss)
   where
     go : (k : ℕ) → refusal (insertion_of n s) (length list) dock t ≡ k
         → ((list t : Words) → sound t ≡ true → Facts n dock ss list t (batch n dock ss list t) (all_orders n dock ss list t))
         → Facts n dock (s ∷ ss) list t (batch n dock (s ∷ ss) list t) (all_orders n dock (s ∷ ss) list t)
-    go zero ok ih = rw (goes n dock s ss list t ok, joined n dock s ss list t ok) (facts-first n dock s ss list t _ _ fine ok (ih _ _ (sound-after (insertion_of n s) (length list) dock t ok)))
+    go zero ok ih = rw (goes n dock s ss list t ok, joined n dock s ss list t ok)
+        (facts-first n dock s ss list t _ _ fine ok (ih _ _ (sound-after (insertion_of n s) (length list) dock t ok)))
     go (suc k) f ih =
         let e = number-here n dock s ss list t k f in
         rw (stops-here n dock s ss list t k f, no-orders n dock s ss list t k f)
@@ -429,7 +469,8 @@ facts n dock (s ∷ ss) list t fine = go (refusal (insertion_of n s) (length lis
 
 -- ---- a batch whole, and cut
 
-whole-ways : (n dock : ℕ) (ss : List Slot) (list t : Words) → sound t ≡ true → (let r = batch n dock ss list t in Ways n dock ss t whole r.answer.taken (both r.table))
+whole-ways : (n dock : ℕ) (ss : List Slot) (list t : Words) → sound t ≡ true
+    → (let r = batch n dock ss list t in Ways n dock ss t whole r.answer.taken (both r.table))
 whole-ways n dock [] list t fine = rw (batch-none n dock list t) (no-ways n dock [] t whole 0 t tt refl refl)
 whole-ways n dock (s ∷ ss) list t fine = go (refusal (insertion_of n s) (length list) dock t) refl (whole-ways n dock ss)
   where
@@ -438,21 +479,25 @@ whole-ways n dock (s ∷ ss) list t fine = go (refusal (insertion_of n s) (lengt
         → (let r = batch n dock (s ∷ ss) list t in Ways n dock (s ∷ ss) t whole r.answer.taken (both r.table))
     go zero ok ih =
         rw (goes n dock s ss list t ok)
-        (ways-first n dock s ss list t _ whole _ _ ok (step-whole n dock s ss list t ok fine) (ih _ _ (sound-after (insertion_of n s) (length list) dock t ok)))
+        (ways-first n dock s ss list t _ whole _ _ ok (step-whole n dock s ss list t ok fine)
+        (ih _ _ (sound-after (insertion_of n s) (length list) dock t ok)))
     go (suc k) f ih = rw (stops-here n dock s ss list t k f) (no-ways n dock (s ∷ ss) t whole 0 t tt refl refl)
 
 -- no order has happened
-cut-none : (n dock : ℕ) (ss : List Slot) (t : Words) (c : ℕ) (m : Words) (taken : ℕ) (os : List Order) → os ≡ [] → c ≤ length os → CutImage dock c t os m → Ways n dock ss t (cut c m) taken (both m)
+cut-none : (n dock : ℕ) (ss : List Slot) (t : Words) (c : ℕ) (m : Words) (taken : ℕ) (os : List Order) → os ≡ [] → c ≤ length os
+    → CutImage dock c t os m → Ways n dock ss t (cut c m) taken (both m)
 cut-none n dock ss t c m taken os e l i =
     let z : c ≡ 0 = omega (arith, l, ap length e) in
     let q : m ≡ t = image-at-none dock [] t m (rw (e, z) at i) in
     no-ways n dock ss t (cut c m) taken m tt (omega arith) (sym q)
 
 abbrev Cuts : (n dock : ℕ) → List Slot → Type 0
-Cuts n dock ss = (list t : Words) (c : ℕ) (m : Words) → sound t ≡ true → c ≤ length (all_orders n dock ss list t) → CutImage dock c t (all_orders n dock ss list t) m
+Cuts n dock ss = (list t : Words) (c : ℕ) (m : Words) → sound t ≡ true → c ≤ length (all_orders n dock ss list t)
+    → CutImage dock c t (all_orders n dock ss list t) m
     → Ways n dock ss t (cut c m) (batch n dock ss list t).answer.taken (both m)
 
-module _ (n dock : ℕ) (s : Slot) (ss : List Slot) (ih : Cuts n dock ss) (list t : Words) (c : ℕ) (m : Words) (fine : sound t ≡ true) (l : c ≤ length (all_orders n dock (s ∷ ss) list t))
+module _ (n dock : ℕ) (s : Slot) (ss : List Slot) (ih : Cuts n dock ss) (list t : Words) (c : ℕ) (m : Words) (fine : sound t ≡ true)
+    (l : c ≤ length (all_orders n dock (s ∷ ss) list t))
     (i : CutImage dock c t (all_orders n dock (s ∷ ss) list t) m) where
   -- the first pair is taken
   module _ (ok : refusal (insertion_of n s) (length list) dock t ≡ 0) where
@@ -481,20 +526,24 @@ module _ (n dock : ℕ) (s : Slot) (ss : List Slot) (ih : Cuts n dock ss) (list 
     past k =
         let d : length first + (c - length first) ≡ c = omega arith in
         let j : CutImage dock (length first + (c - length first)) t (barred dock (orders stores ++ later)) m = rw d image in
-        let w = ih rest (apply stores t) (c - length first) m (sound-after (insertion_of n s) (length list) dock t ok) (omega (arith, l, lengths)) (cut-behind dock (c - length first) stores later t m j) in
-        other-cut n dock (s ∷ ss) t (c - length first) c m _ _ (ways-first n dock s ss list t (apply stores t) (cut (c - length first) m) _ _ ok (step-whole n dock s ss list t ok fine) w)
+        let w = ih rest (apply stores t) (c - length first) m (sound-after (insertion_of n s) (length list) dock t ok)
+        (omega (arith, l, lengths)) (cut-behind dock (c - length first) stores later t m j) in
+        other-cut n dock (s ∷ ss) t (c - length first) c m _ _
+        (ways-first n dock s ss list t (apply stores t) (cut (c - length first) m) _ _ ok (step-whole n dock s ss list t ok fine) w)
 
     taken-cut : Ways n dock (s ∷ ss) t (cut c m) (batch n dock (s ∷ ss) list t).answer.taken (both m)
     taken-cut = rw (goes n dock s ss list t ok) (go (leb c (length first)) refl)
       where
-        go : (b : Bool) → leb c (length first) ≡ b → Ways n dock (s ∷ ss) t (cut c m) (1 + (batch n dock ss rest (apply stores t)).answer.taken) (both m)
+        go : (b : Bool) → leb c (length first) ≡ b
+            → Ways n dock (s ∷ ss) t (cut c m) (1 + (batch n dock ss rest (apply stores t)).answer.taken) (both m)
         go true q = within (leb-true c (length first) q)
         go false q = past (leb-false c (length first) q)
 
   cons-cut : Ways n dock (s ∷ ss) t (cut c m) (batch n dock (s ∷ ss) list t).answer.taken (both m)
   cons-cut = go (refusal (insertion_of n s) (length list) dock t) refl
     where
-      go : (k : ℕ) → refusal (insertion_of n s) (length list) dock t ≡ k → Ways n dock (s ∷ ss) t (cut c m) (batch n dock (s ∷ ss) list t).answer.taken (both m)
+      go : (k : ℕ) → refusal (insertion_of n s) (length list) dock t ≡ k
+          → Ways n dock (s ∷ ss) t (cut c m) (batch n dock (s ∷ ss) list t).answer.taken (both m)
       go zero ok = taken-cut ok
       go (suc k) f = cut-none n dock (s ∷ ss) t c m _ (all_orders n dock (s ∷ ss) list t) (no-orders n dock s ss list t k f) l i
 
@@ -529,14 +578,17 @@ module _ (t : Words) (q : Sound t) (h : History) (p : MayFrom (both t) h) (n doc
   orders-are : batch_orders r ≡ all
   orders-are =
       ap (λ (c : ℕ). take c (decode r.list)) answered ∙ ap (λ (l : Words). take (length all) (decode l)) known.list-is
-      ∙ read-back all list now.working (length all) (header-length now.working (sound-head now.working fine-now)).1 known.inside (omega arith) ∙ take-length all
+      ∙ read-back all list now.working (length all) (header-length now.working (sound-head now.working fine-now)).1 known.inside
+      (omega arith) ∙ take-length all
 
   listed : RightBatch now n ss list r
   listed =
       let head = sound-head now.working fine-now in
-      let number : carry_number (length all) (list_with all list) now.working ≡ 0 = listed-number all list now.working (length all) head known.inside (omega arith) in
+      let number : carry_number (length all) (list_with all list) now.working ≡ 0 =
+      listed-number all list now.working (length all) head known.inside (omega arith) in
       let table : carried_out (length all) (list_with all list) now.working ≡ r.table =
-      listed-carried all list now.working (length all) head known.inside (omega arith) ∙ ap (λ (os : List Order). carry os now.working) (take-length all) ∙ known.gives in
+      listed-carried all list now.working (length all) head known.inside (omega arith)
+      ∙ ap (λ (os : List Order). carry os now.working) (take-length all) ∙ known.gives in
       record {
         enters = known.enters;
         list-is = known.list-is ∙ ap (λ (os : List Order). list_with os list) (sym orders-are);
@@ -553,7 +605,8 @@ module _ (t : Words) (q : Sound t) (h : History) (p : MayFrom (both t) h) (n doc
   -- the insertions fed onto the history; what the batch comes to, and its number, by its fate
   singles-by : (f : Fate) (s' : State) (w : Ways n dock ss now.working f r.answer.taken s') → s' ≡ after_batch f now r
       → (maps_of s'.working ≡ ledger_from (demand3-from t q).0 (nodes t) (both t) (maps_of t) (w.events ++ h)
-      → StopsBy f n (length list - 2 * batch_answered r) dock (stop_number r.answer.stop) (ledger_from (demand3-from t q).0 (nodes t) (both t) (maps_of t) (w.events ++ h)) (drop r.answer.taken ss))
+      → StopsBy f n (length list - 2 * batch_answered r) dock (stop_number r.answer.stop)
+      (ledger_from (demand3-from t q).0 (nodes t) (both t) (maps_of t) (w.events ++ h)) (drop r.answer.taken ss))
       → Singles (demand3-from t q).0 t h n dock ss list r f
   singles-by f s' w e g =
       let es = w.events in
@@ -574,13 +627,15 @@ module _ (t : Words) (q : Sound t) (h : History) (p : MayFrom (both t) h) (n doc
         stops = g (ap (λ (u : State). maps_of u.working) (sym to) ∙ (along t q (es ++ h) may).2);
       }
 
-  stopped-by : (left : List Slot) (words : ℕ) (ps : Ledger) → maps_of r.table ≡ ps → StopsAt n dock words (stop_number r.answer.stop) r.table left → Stops n words dock (stop_number r.answer.stop) ps left
+  stopped-by : (left : List Slot) (words : ℕ) (ps : Ledger) → maps_of r.table ≡ ps
+      → StopsAt n dock words (stop_number r.answer.stop) r.table left → Stops n words dock (stop_number r.answer.stop) ps left
   stopped-by [] words ps e u = u
   stopped-by (s ∷ left) words ps e u = (u.0, rw (u.1, ← e) (number-in-ledger (insertion_of n s) words dock r.table known.fine))
 
   singles : (f : Fate) → BatchMay f dock now r → Singles (demand3-from t q).0 t h n dock ss list r f
   singles whole b =
-      singles-by whole (both r.table) (whole-ways n dock ss list now.working fine-now) (ap (λ (m : Words). record { memory = m; working = r.table }) (sym listed.gives))
+      singles-by whole (both r.table) (whole-ways n dock ss list now.working fine-now)
+      (ap (λ (m : Words). record { memory = m; working = r.table }) (sym listed.gives))
       (λ e. stopped-by (drop r.answer.taken ss) (length list - 2 * batch_answered r) _ e known.stops)
   singles (cut c m) b =
       let l : c ≤ length all = rw answered at b.0 in

@@ -1,30 +1,28 @@
--- Demand 3 with one or two collections, on either dock, with sentinels or without, proved. What is kept: memory is the working copy, sound, of
+-- Demand 3 with one or two collections, on either dock, with sentinels or without, proved. What is kept: memory is the working copy, sound,
+-- of
 -- N nodes, and its maps are the ledger.
-use mathlib.Core.Path.{◌≡◌, refl, sym, ap, ◌∙◌}
-use mathlib.Core.Logic.{◌≢◌, ◌⊎◌, inl, inr}
-use mathlib.Core.Bool.{Bool, true, false, cond, false≢true}
-use mathlib.Core.List.{List, [], ◌∷◌, List-discrete}
+use Rattle.std.proofs.Common.{◌≡◌, ℕ, zero, suc, ◌*◌, ◌≤◌, Bool, true, false, cond, eqb, ◌≢◌, ◌⊎◌, List, [], ◌∷◌, length, take, set, sym}
+use Rattle.std.proofs.Common.{refl, ap, ◌∙◌, inl, inr, le_refl, arith, get_or-set_other, eqb-true}
+use mathlib.Core.Bool.{false≢true}
+use mathlib.Core.List.{List-discrete}
 use mathlib.Core.Option.{Option, none, some}
 use mathlib.Core.HLevel.{Discrete}
-use Prim.Native.Nat.{ℕ, zero, suc, ◌*◌, ◌≤◌}
 use native.Mathlib.Decide.{ℕ_discrete}
-use native.Mathlib.Nat.{le_refl}
-use native.Mathlib.Omega.{arith}
-use lib.Dec.{eqb}
-use borrow.Author.Tests.{eqb-true}
-use lib.ListN.{length, take, set}
-use lib.Seq.{get_or-set_other}
 use Rattle.model.proofs.Numbers.{answered-number, itself, refusal-numbered, slice-numbered}
 use Rattle.model.specs.Results.{done_with, answer_number}
 use Rattle.model.specs.Table.{MARK, Words, nodes, node_start, empty, empty_of}
 use Rattle.model.specs.Slots.{Slot}
-use Rattle.model.specs.Orders.{Store, Order, apply, orders, barred, decode, store_count, flush_count, barrier_count, list_with, carry_number, carried_out}
+use Rattle.model.specs.Orders.{Store, Order, apply, orders, barred, decode, store_count, flush_count, barrier_count, list_with}
+use Rattle.model.specs.Orders.{carry_number, carried_out}
 use Rattle.model.specs.Cuts.{CutImage}
 use Rattle.model.specs.Refusals.{unless_refused, orders_answered, orders_of, seventeen_in, refusal, written, table_after, list_after}
-use Rattle.model.specs.Ledger.{fed_of, End, cut_after, taken, change, Ledger, no_pairs, list_in, answer_from, lacking, pairs_of, other_slice, ledger_refusal, feed}
+use Rattle.model.specs.Ledger.{fed_of, End, cut_after, taken, change, Ledger, no_pairs, list_in, answer_from, lacking, pairs_of}
+use Rattle.model.specs.Ledger.{other_slice, ledger_refusal, feed}
 use Rattle.model.specs.Sentinels.{slice_number, refusal_with, written_with, table_with, orders_with, search_with}
-use Rattle.model.specs.Demand3.{Fate, whole, cut, State, both, Event, History, refusal_by, written_by, table_by, orders_by, number_of, answered, list_of, event_orders, left_by, after_fate, after_refusal, step}
-use Rattle.model.specs.Demand3.{run_from, FateMay, MayFrom, end_of, ledger_from, Agrees, Completed, Carried, Keeps, StayTrue, Right, StandsFrom, Demand3, HoldsFrom, Demand3From}
+use Rattle.model.specs.Demand3.{Fate, whole, cut, State, both, Event, History, refusal_by, written_by, table_by, orders_by, number_of}
+use Rattle.model.specs.Demand3.{answered, list_of, event_orders, left_by, after_fate, after_refusal, step}
+use Rattle.model.specs.Demand3.{run_from, FateMay, MayFrom, end_of, ledger_from, Agrees, Completed, Carried, Keeps, StayTrue, Right}
+use Rattle.model.specs.Demand3.{StandsFrom, Demand3, HoldsFrom, Demand3From}
 use Rattle.model.specs.SoundTest.{sound}
 use Rattle.model.specs.Search.{search}
 use Rattle.model.specs.Reached.{Maps, maps_of}
@@ -130,26 +128,33 @@ plain-answered x words dock t =
     let os = orders_of x dock t in
     answered-number n 0 (done_with (store_count os) (flush_count os) (barrier_count os)) (refusal-numbered x words dock t) refl ∙ itself n
 
-number-answered : (o : Option Words) (x : Call) (words dock : ℕ) (t : Words) → answer_number (written_by o x words dock t) ≡ refusal_by o x words dock t
+number-answered : (o : Option Words) (x : Call) (words dock : ℕ) (t : Words) → answer_number (written_by o x words dock t)
+    ≡ refusal_by o x words dock t
 unfolding written_with refusal_with
 number-answered none x words dock t = plain-answered x words dock t
 number-answered (some ws) x words dock t =
     let n = slice_number (seventeen_in x t) (length ws) t in
-    answered-number n (refusal x words dock t) (written x words dock t) (slice-numbered (seventeen_in x t) (length ws) t) (plain-answered x words dock t)
+    answered-number n (refusal x words dock t) (written x words dock t) (slice-numbered (seventeen_in x t) (length ws) t)
+    (plain-answered x words dock t)
 
 -- a refused call leaves the table and the order list
-pub refused-table : (o : Option Words) (x : Call) (words dock : ℕ) (t : Words) → refusal_by o x words dock t ≢ 0 → table_by o x words dock t ≡ t
+pub refused-table : (o : Option Words) (x : Call) (words dock : ℕ) (t : Words) → refusal_by o x words dock t ≢ 0
+    → table_by o x words dock t ≡ t
 unfolding table_after table_with refusal_with
 refused-table none x words dock t z = not-done (refusal x words dock t) (apply (stores_of x t) t) t z
-refused-table (some ws) x words dock t z = not-with (slice_number (seventeen_in x t) (length ws) t) (refusal x words dock t) (apply (stores_of x t) t) t z
+refused-table (some ws) x words dock t z =
+    not-with (slice_number (seventeen_in x t) (length ws) t) (refusal x words dock t) (apply (stores_of x t) t) t z
 
-refused-list : (o : Option Words) (x : Call) (lent : Words) (dock : ℕ) (t : Words) → refusal_by o x (length lent) dock t ≢ 0 → orders_by o x lent dock t ≡ lent
+refused-list : (o : Option Words) (x : Call) (lent : Words) (dock : ℕ) (t : Words) → refusal_by o x (length lent) dock t ≢ 0
+    → orders_by o x lent dock t ≡ lent
 unfolding list_after orders_with refusal_with
 refused-list none x lent dock t z = not-done (refusal x (length lent) dock t) (list_with (orders_of x dock t) lent) lent z
-refused-list (some ws) x lent dock t z = not-with (slice_number (seventeen_in x t) (length ws) t) (refusal x (length lent) dock t) (list_with (orders_of x dock t) lent) lent z
+refused-list (some ws) x lent dock t z =
+    not-with (slice_number (seventeen_in x t) (length ws) t) (refusal x (length lent) dock t) (list_with (orders_of x dock t) lent) lent z
 
 -- 10 and 11 are the plain call's
-same-plain : (o : Option Words) (x : Call) (words dock : ℕ) (t : Words) (k : ℕ) → k ≢ 2 → k ≢ 17 → k ≢ 19 → refusal_by o x words dock t ≡ k → refusal x words dock t ≡ k
+same-plain : (o : Option Words) (x : Call) (words dock : ℕ) (t : Words) (k : ℕ) → k ≢ 2 → k ≢ 17 → k ≢ 19 → refusal_by o x words dock t ≡ k
+    → refusal x words dock t ≡ k
 same-plain none x words dock t k a b c e = e
 same-plain (some ws) x words dock t k a b c e = number-plain x (length ws) words dock t k a b c e
 
@@ -165,7 +170,8 @@ unless-refused R zero new old new' old' f h = f refl
 unless-refused R (suc n) new old new' old' f h = h (λ e. omega arith)
 
 -- a repair moves nothing in the ledger, so it keeps the map
-repair-feeds : (other : Bool) (words dock fed : ℕ) (end : End) (choice : Bool) (ps : Ledger) → feed repair other words dock fed end choice ps ≡ ps
+repair-feeds : (other : Bool) (words dock fed : ℕ) (end : End) (choice : Bool) (ps : Ledger)
+    → feed repair other words dock fed end choice ps ≡ ps
 unfolding feed
 repair-feeds other words dock fed end choice ps = go (ledger_refusal repair other words dock fed ps) (taken end choice)
   where
@@ -202,7 +208,11 @@ map-kept N repair s s' other words dock fed end choice ps a b =
 
 agrees : (N : ℕ) (s : State) (ps : Ledger) → Inv N s ps → Agrees N s ps
 agrees N s ps v =
-    record { in-memory = λ n k. rw v.both (answer n k); in-working = answer; with-words = λ n k ws l. (rw v.both (by-words n k ws l), by-words n k ws l) }
+    record {
+      in-memory = λ n k. rw v.both (answer n k);
+      in-working = answer;
+      with-words = λ n k ws l. (rw v.both (by-words n k ws l), by-words n k ws l);
+    }
   where
     answer : (n k : ℕ) → search n s.working k ≡ answer_from k (list_in n ps)
     answer n k = searched n s.working k v.fine ∙ ap (λ (m : Ledger). answer_from k (list_in n m)) v.maps
@@ -251,15 +261,18 @@ module _ (s : State) (e : Event) (both : s.memory ≡ s.working) (fine : sound s
   -- the orders of the lent list, as many as it answered
   pub listed-all : event_orders s e ≡ orders_of e.call e.dock s.working
   listed-all =
-      ap (λ (c : ℕ). take c (decode (list_of s e))) answered-all ∙ ap (λ (l : Words). take (length os) (decode l)) (accepted-list x e.lent dock t e.slice plain)
+      ap (λ (c : ℕ). take c (decode (list_of s e))) answered-all
+      ∙ ap (λ (l : Words). take (length os) (decode l)) (accepted-list x e.lent dock t e.slice plain)
       ∙ list-read-back dock ss e.lent t (sound-head t fine) steps.stores-inside
 
   -- the carry-out of all orders answered, with the lent list as the call left it
-  carried-whole : (carry_number (answered s e) (list_of s e) s.memory ≡ 0) × (carried_out (answered s e) (list_of s e) s.memory ≡ apply ss t)
+  carried-whole : (carry_number (answered s e) (list_of s e) s.memory ≡ 0)
+      × (carried_out (answered s e) (list_of s e) s.memory ≡ apply ss t)
   carried-whole =
       let h = sound-head t fine in
       let i = steps.stores-inside in
-      rw (answered-all, accepted-list x e.lent dock t e.slice plain, both) (carry-list-number dock ss e.lent t h i _ (le_refl _), carry-list-all dock ss e.lent t h i)
+      rw (answered-all, accepted-list x e.lent dock t e.slice plain, both)
+      (carry-list-number dock ss e.lent t h i _ (le_refl _), carry-list-all dock ss e.lent t h i)
 
   -- an image that a cut may leave
   image : (c : ℕ) (m : Words) → CutImage dock c s.memory (event_orders s e) m → CutImage dock c s.memory os m
@@ -297,7 +310,8 @@ module _ (s : State) (e : Event) (both : s.memory ≡ s.working) (fine : sound s
   left-sound : sound left ≡ true
   left-sound = rw left-all (sound-after x (length e.lent) dock t plain.accepted)
 
-  fate-inv : (N : ℕ) → nodes t ≡ N → (f : Fate) → FateMay f s e → Inv N (after_fate f s e) (cond (taken (end_of f s e) (chosen f new)) new old)
+  fate-inv : (N : ℕ) → nodes t ≡ N → (f : Fate) → FateMay f s e
+      → Inv N (after_fate f s e) (cond (taken (end_of f s e) (chosen f new)) new old)
   fate-inv N size whole p =
       record {
         both = carried-whole.1 ∙ sym left-all;
@@ -373,7 +387,8 @@ module _ (N : ℕ) (s : State) (e : Event) (ps : Ledger) (v : Inv N s ps) (p : n
     same-number = same-number;
     answers-it = number-answered e.slice e.call (length e.lent) e.dock s.working;
     ten-only = λ q. only-ten e.call (length e.lent) e.dock s.working v.fine (plain-number 10 (omega arith) (omega arith) (omega arith) q);
-    eleven-only = λ q. only-eleven e.call (length e.lent) e.dock s.working v.fine (plain-number 11 (omega arith) (omega arith) (omega arith) q);
+    eleven-only = λ q. only-eleven e.call (length e.lent) e.dock s.working v.fine
+        (plain-number 11 (omega arith) (omega arith) (omega arith) q);
     carried = λ ok. fate-carried s e v.both v.fine ok e.fate;
     equal = step-completed;
     finished = step-settled;
@@ -405,7 +420,8 @@ pub demand3-from : Demand3From
 demand3-from t q = (choose (both t), kept (nodes t) (both t) (maps_of t) (starts t ((sound-same t).1 q)))
 
 -- along every history memory is the working copy, sound, and its maps are the ledger
-pub along : (t : Words) (q : Sound t) (h : History) → MayFrom (both t) h → (let u = run_from (both t) h in (u.memory ≡ u.working) × (sound u.working ≡ true)
+pub along : (t : Words) (q : Sound t) (h : History) → MayFrom (both t) h
+    → (let u = run_from (both t) h in (u.memory ≡ u.working) × (sound u.working ≡ true)
     × (maps_of u.working ≡ ledger_from (demand3-from t q).0 (nodes t) (both t) (maps_of t) h))
 unfolding demand3-from
 along t q h p = let v = inv (nodes t) (both t) (maps_of t) (starts t ((sound-same t).1 q)) h p in (v.both, v.fine, v.maps)
@@ -420,12 +436,14 @@ module _ (n N : ℕ) (kind : (n ≡ 1) ⊎ (n ≡ 2)) (low : n ≤ N) (high : N 
   pub empty-nodes : (n ≡ 1) ⊎ (n ≡ 2) → nodes (empty_of n N) ≡ N
   unfolding empty_of empty node_start
   empty-nodes (inl e) = rw e
-  empty-nodes (inr e) = rw e (get_or-set_other (set (empty N) 3 2) (node_start 2) 2 MARK 0 (omega arith) ∙ get_or-set_other (empty N) 3 2 2 0 (omega arith))
+  empty-nodes (inr e) =
+      rw e (get_or-set_other (set (empty N) 3 2) (node_start 2) 2 MARK 0 (omega arith) ∙ get_or-set_other (empty N) 3 2 2 0 (omega arith))
 
   pub empty-sound : Sound (empty_of n N)
   empty-sound = (sound-same (empty_of n N)).0 (settled-sound _ (empty-settled n N kind low high))
 
--- For one collection or two, every N and every sequence of insertions, deletions, class changes and repairs, whole or cut, each on its dock,
+-- For one collection or two, every N and every sequence of insertions, deletions, class changes and repairs, whole or cut, each on its
+-- dock,
 -- with sentinels or without: the empty table is a sound one, and its maps have no pairs.
 pub demand3 : Demand3
 demand3 n N kind low high =

@@ -1,12 +1,9 @@
--- Document 01, "Drawings that do not hold": beside each right list or definition the drawn one, and a table on which that goes wrong; and for
+-- Document 01, "Drawings that do not hold": beside each right list or definition the drawn one, and a table on which that goes wrong; and
+-- for
 -- request 7 dock 1 without barriers.
-use mathlib.Core.Path.{◌≡◌, refl, sym, ap, ◌∙◌}
-use mathlib.Core.Logic.{inl, inr}
-use mathlib.Core.Bool.{Bool, true, false, cond, false≢true}
-use mathlib.Core.List.{List, [], ◌∷◌, ◌++◌, map}
-use Prim.Native.Nat.{ℕ, suc, ◌+◌, ◌*◌}
-use lib.Dec.{eqb}
-use lib.ListN.{length, take, drop, set, replicate}
+use Rattle.std.proofs.Common.{◌≡◌, ℕ, suc, ◌+◌, ◌*◌, Bool, true, false, cond, eqb, List, [], ◌∷◌, ◌++◌, map, length, take, drop, set}
+use Rattle.std.proofs.Common.{replicate, sym, refl, ap, ◌∙◌, inl, inr}
+use mathlib.Core.Bool.{false≢true}
 use Rattle.model.specs.declared.Answer.TheVariants.{Found, Absent}
 use Rattle.std.specs.Prelude.{Some, None}
 use Rattle.model.specs.Table.{MARK, Words, nodes, root, empty, node_start, line}
@@ -58,7 +55,8 @@ abbrev pub next_key : Call
 next_key = insertion 1 120 112 0
 
 -- a map that lacks a key of the old and of the new one is neither
-neither-map : (k : ℕ) (x : Call) (t u : Words) → has_key k (maps_of u).one ≡ false → has_key k (maps_of t).one ≡ true → has_key k (change x (maps_of t)).one ≡ true
+neither-map : (k : ℕ) (x : Call) (t u : Words) → has_key k (maps_of u).one ≡ false → has_key k (maps_of t).one ≡ true
+    → has_key k (change x (maps_of t)).one ≡ true
     → OldOrNew x t u → ⊥
 neither-map k x t u a b c (inl e) = false≢true (sym a ∙ ap (λ (m : Maps). has_key k m.one) e ∙ b)
 neither-map k x t u a b c (inr e) = false≢true (sym a ∙ ap (λ (m : Maps). has_key k m.one) e ∙ c)
@@ -115,7 +113,15 @@ by_first_key d v =
     record {
       nodes = v.nodes;
       root = v.root;
-      node = λ (i : ℕ). (let n = v.node i in record { left = n.left; sibling = n.sibling; level = n.level; fence = first_key d n.shown; shown = n.shown; hidden = n.hidden; clear = n.clear });
+      node = λ (i : ℕ). (let n = v.node i in record {
+        left = n.left;
+        sibling = n.sibling;
+        level = n.level;
+        fence = first_key d n.shown;
+        shown = n.shown;
+        hidden = n.hidden;
+        clear = n.clear;
+      });
     }
 
 -- leaf A with keys 10 to 50, and its sibling B, with fence 60, emptied by deletions, the last of them cut before it frees B
@@ -138,7 +144,14 @@ pub record FirstKey : Type 0 where
 
 pub first-key : FirstKey
 unfolding everything after_calls insert_tens delete_tens full_leaf by_first_key emptied trailing
-first-key = record { emptied-settled = refl; finds-fifty = refl; misses-fifty = refl; trailing-sound = refl; sixty-absent = refl; finds-sixty = refl }
+first-key = record {
+  emptied-settled = refl;
+  finds-fifty = refl;
+  misses-fifty = refl;
+  trailing-sound = refl;
+  sixty-absent = refl;
+  finds-sixty = refl;
+}
 
 -- ---- hiding by equal keys
 
@@ -152,7 +165,8 @@ shown_by_keys [] = []
 shown_by_keys (s ∷ ss) = s ∷ shown_after s.key ss
 
 unfoldable pub hiding_by_keys : Words → View
-hiding_by_keys t = record { nodes = nodes t; root = root t; node = λ (i : ℕ). showing (node_view t i) (shown_by_keys (used t i)) (node_view t i).hidden }
+hiding_by_keys t = record
+    { nodes = nodes t; root = root t; node = λ (i : ℕ). showing (node_view t i) (shown_by_keys (used t i)) (node_view t i).hidden }
 
 -- a shift in that was cut after its second store: slot 2 has the pointer of slot 1, and the key of the deleted pair
 abbrev pub shift_cut : Words
@@ -287,7 +301,8 @@ pub record NoBarriers : Type 0 where
   pub neither : OldOrNew lowest two_slots unbarred_image → ⊥
 
 -- the images of an accepted call's list
-old-or-new : (x : Call) (words dock : ℕ) (t : Words) → refusal x words dock t ≡ 0 → (c : ℕ) (m : Words) → CutImage dock c t (orders_of x dock t) m → OldOrNew x t m
+old-or-new : (x : Call) (words dock : ℕ) (t : Words) → refusal x words dock t ≡ 0 → (c : ℕ) (m : Words)
+    → CutImage dock c t (orders_of x dock t) m → OldOrNew x t m
 old-or-new x words dock t ok c m i =
     let p = image-is-stores dock (stores_of x t) t c m i in
     rw p.2 ((accepted-steps x words dock t ((accepted-iff x words dock t).0 ok).sound ok).part-map p.0)

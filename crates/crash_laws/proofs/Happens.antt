@@ -1,13 +1,7 @@
 -- A history that may happen, computed: an insertion whole, one cut after three of its seven orders, then a class change and a deletion on
 -- what was reloaded.
-use mathlib.Core.Path.{◌≡◌, refl}
-use mathlib.Core.Logic.{inl}
-use mathlib.Core.Bool.{Bool, true, false}
-use mathlib.Core.List.{List, [], ◌∷◌}
+use Rattle.std.proofs.Common.{◌≡◌, ℕ, ◌≤◌, Bool, true, false, List, [], ◌∷◌, length, take, replicate, refl, inl, arith}
 use mathlib.Core.Option.{none}
-use Prim.Native.Nat.{ℕ, ◌≤◌}
-use native.Mathlib.Omega.{arith}
-use lib.ListN.{length, take, replicate}
 use Rattle.model.specs.declared.Answer.TheVariants.{Found, Absent}
 use Rattle.std.specs.Prelude.{Some, None}
 use Rattle.model.specs.Table.{Words}
@@ -67,7 +61,8 @@ happens-kept = let d = demand3 1 1 (inl refl) (omega arith) (omega arith) in (d.
 -- nothing unfinished; the deletion takes it.
 pub record Computed : Type 0 where
   pub all-accepted : (number_of (run_all 1 1 []) (event (insertion 1 20 102 1) whole) ≡ 0)
-      × (number_of (run_all 1 1 inserted) (event (insertion 1 10 101 0) (cut 3 image)) ≡ 0) × (number_of (run_all 1 1 cut_short) (event (class_change 1 20 2) whole) ≡ 0)
+      × (number_of (run_all 1 1 inserted) (event (insertion 1 10 101 0) (cut 3 image)) ≡ 0)
+      × (number_of (run_all 1 1 cut_short) (event (class_change 1 20 2) whole) ≡ 0)
       × (number_of (run_all 1 1 closed) (event (deletion 1 20) whole) ≡ 0)
   pub seven-orders : length orders_cut ≡ 7
   pub image-sound : (sound image ≡ true) × (settled image ≡ false)

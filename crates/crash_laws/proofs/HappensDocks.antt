@@ -1,13 +1,8 @@
--- A history over both docks that may happen, computed: an insertion whole, one cut after five of its thirteen orders, both on dock 1, then a
+-- A history over both docks that may happen, computed: an insertion whole, one cut after five of its thirteen orders, both on dock 1, then
+-- a
 -- deletion on dock 0, which finishes what the cut left.
-use mathlib.Core.Path.{◌≡◌, refl, sym}
-use mathlib.Core.Logic.{inl}
-use mathlib.Core.Bool.{Bool, true, false}
-use mathlib.Core.List.{List, [], ◌∷◌}
+use Rattle.std.proofs.Common.{◌≡◌, ℕ, ◌≤◌, Bool, true, false, List, [], ◌∷◌, length, take, replicate, sym, refl, inl, arith}
 use mathlib.Core.Option.{none}
-use Prim.Native.Nat.{ℕ, ◌≤◌}
-use native.Mathlib.Omega.{arith}
-use lib.ListN.{length, take, replicate}
 use Rattle.model.specs.declared.Answer.TheVariants.{Found, Absent}
 use Rattle.std.specs.Prelude.{Some}
 use Rattle.model.specs.Table.{Words, empty_of}
@@ -86,7 +81,8 @@ happens-kept = let d = demand3 1 1 (inl refl) (omega arith) (omega arith) in (d.
 -- No call was refused; a third dock is; the image is sound, not settled, and still has the first pair; the deletion takes it and leaves
 -- nothing unfinished.
 pub record Computed : Type 0 where
-  pub all-accepted : (number_of (run_all 1 1 []) (on 1 (insertion 1 20 102 1) whole) ≡ 0) × (number_of (run_all 1 1 inserted) (on 1 (insertion 1 10 101 0) (cut 5 image)) ≡ 0)
+  pub all-accepted : (number_of (run_all 1 1 []) (on 1 (insertion 1 20 102 1) whole) ≡ 0)
+      × (number_of (run_all 1 1 inserted) (on 1 (insertion 1 10 101 0) (cut 5 image)) ≡ 0)
       × (number_of (run_all 1 1 cut_short) (on 0 (deletion 1 20) whole) ≡ 0)
   pub no-third : number_of (run_all 1 1 cut_short) (on 2 (deletion 1 20) whole) ≡ 18
   pub thirteen-orders : length orders_cut ≡ 13

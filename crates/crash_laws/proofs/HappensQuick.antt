@@ -1,14 +1,10 @@
--- A history with quick calls, computed, from a packed table: a summary is opened; a quick insertion that splits the full root leaf is cut in the
--- middle of the split, which ends the summary; opening is then refused, and a repair finishes the split; with a new summary the insertion comes
+-- A history with quick calls, computed, from a packed table: a summary is opened; a quick insertion that splits the full root leaf is cut
+-- in the
+-- middle of the split, which ends the summary; opening is then refused, and a repair finishes the split; with a new summary the insertion
+-- comes
 -- again, another is refused, and a deletion follows.
-use mathlib.Core.Path.{◌≡◌, refl}
-use mathlib.Core.Logic.{◌≢◌}
-use mathlib.Core.Bool.{Bool, true, false}
-use mathlib.Core.List.{List, [], ◌∷◌}
+use Rattle.std.proofs.Common.{◌≡◌, ℕ, ◌≤◌, Bool, true, false, ◌≢◌, List, [], ◌∷◌, take, replicate, refl, arith}
 use mathlib.Core.Option.{Option, none, some}
-use Prim.Native.Nat.{ℕ, ◌≤◌}
-use native.Mathlib.Omega.{arith}
-use lib.ListN.{take, replicate}
 use Rattle.model.specs.declared.Answer.TheVariants.{Found, Absent}
 use Rattle.std.specs.Prelude.{Some, None}
 use Rattle.model.specs.Table.{Words, nodes}
@@ -19,7 +15,8 @@ use Rattle.model.specs.Orders.{Order, decode, carry}
 use Rattle.model.specs.Writes.{insertion, deletion, repair}
 use Rattle.model.specs.Demand3.{whole, cut, Event, History, State, both}
 use Rattle.model.specs.Summary.{opened, open_number}
-use Rattle.model.specs.QuickHistories.{Acts, call, opens, quick, host, quick_number_of, quick_answered, quick_list_of, run_acts, QuickMay, MayActs, KeptActs}
+use Rattle.model.specs.QuickHistories.{Acts, call, opens, quick, host, quick_number_of, quick_answered, quick_list_of, run_acts, QuickMay}
+use Rattle.model.specs.QuickHistories.{MayActs, KeptActs}
 use Rattle.model.proofs.Everything.{everything}
 use Rattle.cut_laws.proofs.Images.{carry-image}
 use Rattle.two_laws.proofs.SameTwo.{sound-same}
@@ -36,7 +33,8 @@ first = opens slice ∷ []
 
 -- the orders of the insertion, of which 76 happen and arrive: the new leaf is linked, and its slot is not yet in the parent
 abbrev first_orders : List Order
-first_orders = take (quick_answered (opened full) (both full) (inserting whole)) (decode (quick_list_of (opened full) (both full) (inserting whole)))
+first_orders = take (quick_answered (opened full) (both full) (inserting whole))
+    (decode (quick_list_of (opened full) (both full) (inserting whole)))
 
 abbrev half : Words
 half = carry (take 76 first_orders) full
@@ -68,11 +66,13 @@ number_with (some ws) s e = quick_number_of ws s e
 abbrev number_after : Acts → Event → ℕ
 number_after h e = let x = run_acts (both full) h in number_with x.summary x.state e
 
--- The insertion is accepted with 88 orders. The cut leaves a sound table that is not settled, without the new pair; opening is refused with 20.
+-- The insertion is accepted with 88 orders. The cut leaves a sound table that is not settled, without the new pair; opening is refused with
+-- 20.
 pub record CutShort : Type 0 where
   pub starts-sound : sound full ≡ true
   pub opens-it : run_acts (both full) first ≡ host (both full) (some (opened full))
-  pub answers : (quick_number_of (opened full) (both full) (inserting whole) ≡ 0) × (quick_answered (opened full) (both full) (inserting whole) ≡ 88)
+  pub answers : (quick_number_of (opened full) (both full) (inserting whole) ≡ 0)
+      × (quick_answered (opened full) (both full) (inserting whole) ≡ 88)
   pub cut-leaves : ((run_acts (both full) cut_half).state.memory ≡ half) × ((run_acts (both full) cut_half).summary ≡ none)
   pub half-sound : (sound half ≡ true) × (settled half ≡ false)
   pub half-lacks : (search 1 half 115 ≡ Absent None) × (search 1 half 60 ≡ Found 6 0)
@@ -82,7 +82,16 @@ pub record CutShort : Type 0 where
 
 pub cut-short : CutShort
 unfolding everything
-cut-short = record { starts-sound = refl; opens-it = refl; answers = (refl, refl); cut-leaves = (refl, refl); half-sound = (refl, refl); half-lacks = (refl, refl); twenty = refl; other-ends = refl }
+cut-short = record {
+  starts-sound = refl;
+  opens-it = refl;
+  answers = (refl, refl);
+  cut-leaves = (refl, refl);
+  half-sound = (refl, refl);
+  half-lacks = (refl, refl);
+  twenty = refl;
+  other-ends = refl;
+}
 
 -- The repair settles it, and a summary is opened; the insertion comes.
 pub record Comes : Type 0 where
@@ -119,10 +128,12 @@ whole-may : (w : Option Words) (s : State) (e : Event) → e.fate ≡ whole → 
 whole-may none s e f z = absurd (z refl)
 whole-may (some ws) s e f z = λ n. rw f tt
 
-may-after : (h : Acts) (e : Event) → e.fate ≡ whole → number_after h e ≢ 99 → QuickMay (run_acts (both full) h).summary (run_acts (both full) h).state e
+may-after : (h : Acts) (e : Event) → e.fate ≡ whole → number_after h e ≢ 99
+    → QuickMay (run_acts (both full) h).summary (run_acts (both full) h).state e
 may-after h e f z = whole-may (run_acts (both full) h).summary (run_acts (both full) h).state e f z
 
-may-come : QuickMay (run_acts (both full) (opens slice ∷ mended)).summary (run_acts (both full) (opens slice ∷ mended)).state (inserting whole)
+may-come : QuickMay (run_acts (both full) (opens slice ∷ mended)).summary
+    (run_acts (both full) (opens slice ∷ mended)).state (inserting whole)
 may-come = may-after (opens slice ∷ mended) (inserting whole) refl (λ z. omega (arith, comes-again.accepted, z))
 
 may-refuse : QuickMay (run_acts (both full) again).summary (run_acts (both full) again).state (event (insertion 1 120 12 0) whole)

@@ -1,13 +1,7 @@
 -- A history with sentinels that may happen, computed: an insertion whole, one cut after three of its seven orders, both with true words; a
 -- deletion with four words, refused; and that deletion with three words that are not true, which finishes what the cut left.
-use mathlib.Core.Path.{◌≡◌, refl}
-use mathlib.Core.Logic.{inl}
-use mathlib.Core.Bool.{Bool, true, false}
-use mathlib.Core.List.{List, [], ◌∷◌}
+use Rattle.std.proofs.Common.{◌≡◌, ℕ, ◌≤◌, Bool, true, false, List, [], ◌∷◌, take, replicate, refl, inl, arith}
 use mathlib.Core.Option.{some}
-use Prim.Native.Nat.{ℕ, ◌≤◌}
-use native.Mathlib.Omega.{arith}
-use lib.ListN.{take, replicate}
 use Rattle.model.specs.declared.Answer.TheVariants.{Found}
 use Rattle.model.specs.Table.{MARK, Words}
 use Rattle.model.specs.Search.{search}
@@ -71,14 +65,17 @@ happens = ((((tt, λ e. tt), λ e. (within-list, may-leave)), λ e. tt), λ e. t
 pub happens-kept : (choose : History → Bool) × Stands choose 1 1 deleted
 happens-kept = let d = demand3 1 1 (inl refl) (omega arith) (omega arith) in (d.0, d.1 deleted happens)
 
--- Four words are refused with 19 and change nothing, any three are not; the words that the first insertion leaves are true, and those of the
+-- Four words are refused with 19 and change nothing, any three are not; the words that the first insertion leaves are true, and those of
+-- the
 -- image are worked out anew; the deletion sets all words of the one node.
 pub record Computed : Type 0 where
-  pub accepted : (number_of (run_all 1 1 []) (taking no_key (insertion 1 20 102 1) whole) ≡ 0) × (number_of (run_all 1 1 inserted) (taking one_key (insertion 1 10 101 0) (cut 3 image)) ≡ 0)
+  pub accepted : (number_of (run_all 1 1 []) (taking no_key (insertion 1 20 102 1) whole) ≡ 0)
+      × (number_of (run_all 1 1 inserted) (taking one_key (insertion 1 10 101 0) (cut 3 image)) ≡ 0)
       × (number_of (run_all 1 1 too_many) (taking (replicate 3 7) (deletion 1 20) whole) ≡ 0)
   pub nineteen : number_of (run_all 1 1 cut_short) (taking (replicate 4 0) (deletion 1 20) whole) ≡ 19
   pub still-there : (search 1 (run_all 1 1 too_many).memory 20 ≡ Found 102 1) × (settled (run_all 1 1 too_many).working ≡ false)
-  pub stay-true : (sentinels_with (insertion 1 20 102 1) no_key 2560 0 (run_all 1 1 []).working ≡ one_key) × (sentinels before ≡ one_key) × (sentinels image ≡ one_key)
+  pub stay-true : (sentinels_with (insertion 1 20 102 1) no_key 2560 0 (run_all 1 1 []).working ≡ one_key) × (sentinels before ≡ one_key)
+      × (sentinels image ≡ one_key)
   pub set-anew : sentinels_with (deletion 1 20) (replicate 3 7) 2560 0 image ≡ no_key
   pub gone : map_of 1 (run_all 1 1 deleted).memory ≡ []
   pub settled-again : settled (run_all 1 1 deleted).memory ≡ true

@@ -1,12 +1,8 @@
--- A history from a packed table, computed: an insertion that splits the full root leaf is cut in the middle of the split, and omitted; the same
+-- A history from a packed table, computed: an insertion that splits the full root leaf is cut in the middle of the split, and omitted; the
+-- same
 -- insertion again is cut before its last order, a flush, and taken.
-use mathlib.Core.Path.{◌≡◌, refl, sym, ap, ◌∙◌}
-use mathlib.Core.Bool.{Bool, true, false, cond}
-use mathlib.Core.List.{List, [], ◌∷◌}
-use Prim.Native.Nat.{ℕ, zero, suc, ◌≤◌}
-use native.Mathlib.Omega.{arith}
-use lib.Dec.{eqb}
-use lib.ListN.{take, replicate}
+use Rattle.std.proofs.Common.{◌≡◌, ℕ, zero, suc, ◌≤◌, Bool, true, false, cond, eqb, List, [], ◌∷◌, take, replicate, sym, refl, ap, ◌∙◌}
+use Rattle.std.proofs.Common.{arith}
 use Rattle.model.specs.declared.Answer.{Answer}
 use Rattle.model.specs.declared.Answer.TheVariants.{Found, Absent}
 use Rattle.std.specs.Prelude.{None}
@@ -18,7 +14,8 @@ use Rattle.model.specs.Writes.{Call, insertion}
 use Rattle.model.specs.Refusals.{unless_refused}
 use Rattle.model.specs.Ledger.{Ledger, fed_of, list_in, answer_from, cut_after, taken, change, ledger_refusal, feed}
 use Rattle.model.specs.Pack.{maps_in, pack_number, pack_out}
-use Rattle.model.specs.Demand3.{Fate, whole, cut, Event, History, both, State, number_of, answered, event_orders, run_from, MayFrom, ledger_from, StandsFrom, HoldsFrom}
+use Rattle.model.specs.Demand3.{Fate, whole, cut, Event, History, both, State, number_of, answered, event_orders, run_from, MayFrom}
+use Rattle.model.specs.Demand3.{ledger_from, StandsFrom, HoldsFrom}
 use Rattle.model.proofs.Everything.{everything}
 use Rattle.cut_laws.proofs.Images.{carry-image}
 use Rattle.crash_laws.proofs.Starts.{packed-start}
@@ -59,7 +56,15 @@ pub record Counted : Type 0 where
 
 pub counted : Counted
 unfolding everything
-counted = record { packs = refl; three = refl; first-accepted = refl; first-answered = refl; half-sound = (refl, refl); half-lacks = refl; half-keeps = refl }
+counted = record {
+  packs = refl;
+  three = refl;
+  first-accepted = refl;
+  first-answered = refl;
+  half-sound = (refl, refl);
+  half-lacks = refl;
+  half-keeps = refl;
+}
 
 -- the second: all its stores arrive, its last flush does not happen
 abbrev pub almost : Words
@@ -79,7 +84,15 @@ pub record Computed : Type 0 where
 
 pub computed : Computed
 unfolding everything
-computed = record { reloaded = refl; second-accepted = refl; second-answered = refl; almost-has = refl; almost-keeps = (refl, refl); settled-again = refl; kept = refl }
+computed = record {
+  reloaded = refl;
+  second-accepted = refl;
+  second-answered = refl;
+  almost-has = refl;
+  almost-keeps = (refl, refl);
+  settled-again = refl;
+  kept = refl;
+}
 
 within-first : 76 ≤ answered (both full) (inserting whole)
 within-first = rw counted.first-answered (omega arith)
@@ -94,7 +107,10 @@ start = maps_in 1 eleven_pairs []
 
 pub happens : MayFrom (both full) cut_late
 unfolding MayFrom run_from
-happens = ((tt, λ e. (within-first, carry-image (take 76 first_orders) full)), λ e. (within-second, carry-image (take 11 second_orders) (run_from (both full) cut_half).memory))
+happens = (
+  (tt, λ e. (within-first, carry-image (take 76 first_orders) full)),
+  λ e. (within-second, carry-image (take 11 second_orders) (run_from (both full) cut_half).memory),
+)
 
 -- a cut change that is omitted moves nothing
 omitted : (x : Call) (other : Bool) (words dock fed c : ℕ) (ps : Ledger) → feed x other words dock fed (cut_after c false) false ps ≡ ps
@@ -138,16 +154,19 @@ module _ (d : HoldsFrom (nodes full) full start) where
   unfolding MayFrom
   in-half = (d.1 cut_half happens.0).0.in-memory 1 115
 
-  in-almost : search 1 (run_from (both full) cut_late).memory 115 ≡ answer_from 115 (list_in 1 (ledger_from d.0 (nodes full) (both full) start cut_late))
+  in-almost : search 1 (run_from (both full) cut_late).memory 115
+      ≡ answer_from 115 (list_in 1 (ledger_from d.0 (nodes full) (both full) start cut_late))
   in-almost = (d.1 cut_late happens).0.in-memory 1 115
 
   half-fed : ledger_from d.0 (nodes full) (both full) start cut_half
-      ≡ feed (insertion 1 115 12 0) false 2560 0 (fed_of (number_of (both full) (inserting whole))) (cut_after 76 (eqb 76 (answered (both full) (inserting whole)))) (d.0 cut_half) start
+      ≡ feed (insertion 1 115 12 0) false 2560 0 (fed_of (number_of (both full) (inserting whole)))
+      (cut_after 76 (eqb 76 (answered (both full) (inserting whole)))) (d.0 cut_half) start
   unfolding ledger_from run_from
   half-fed = refl
 
   late-fed : ledger_from d.0 (nodes full) (both full) start cut_late
-      ≡ feed (insertion 1 115 12 0) false 2560 0 (fed_of (number_of second (inserting whole))) (cut_after 11 (eqb 11 (answered second (inserting whole)))) (d.0 cut_late)
+      ≡ feed (insertion 1 115 12 0) false 2560 0 (fed_of (number_of second (inserting whole)))
+      (cut_after 11 (eqb 11 (answered second (inserting whole)))) (d.0 cut_late)
       (ledger_from d.0 (nodes full) (both full) start cut_half)
   unfolding ledger_from
   late-fed = refl
@@ -158,9 +177,11 @@ module _ (d : HoldsFrom (nodes full) full start) where
       let n : fed_of (number_of (both full) (inserting whole)) ≡ 0 = ap fed_of counted.first-accepted in
       let all : eqb 76 (answered (both full) (inserting whole)) ≡ false = ap (eqb 76) counted.first-answered in
       let e : search 1 second.memory 115 ≡ fed_by 0 76 false start (d.0 cut_half) =
-      in-half ∙ ap (λ (m : Ledger). answer_from 115 (list_in 1 m)) half-fed ∙ ap (λ (f : ℕ). fed_by f 76 (eqb 76 (answered (both full) (inserting whole))) start (d.0 cut_half)) n
+      in-half ∙ ap (λ (m : Ledger). answer_from 115 (list_in 1 m)) half-fed
+      ∙ ap (λ (f : ℕ). fed_by f 76 (eqb 76 (answered (both full) (inserting whole))) start (d.0 cut_half)) n
       ∙ ap (λ (b : Bool). fed_by 0 76 b start (d.0 cut_half)) all in
-      is-false (fed_by 0 76 false start) (search 1 second.memory 115) (d.0 cut_half) e (λ q. found-not-absent _ _ taken-there computed.reloaded (sym q))
+      is-false (fed_by 0 76 false start) (search 1 second.memory 115) (d.0 cut_half) e
+      (λ q. found-not-absent _ _ taken-there computed.reloaded (sym q))
 
   -- and the second, cut after 11 of 12 orders, is taken.
   pub second-taken : d.0 cut_late ≡ true
@@ -171,8 +192,11 @@ module _ (d : HoldsFrom (nodes full) full start) where
       let e : search 1 (run_from (both full) cut_late).memory 115 ≡ fed_by f 11 false ps (d.0 cut_late) =
       in-almost ∙ ap (λ (m : Ledger). answer_from 115 (list_in 1 m)) late-fed ∙ ap (λ (b : Bool). fed_by f 11 b ps (d.0 cut_late)) all in
       is-true (fed_by f 11 false ps) (search 1 (run_from (both full) cut_late).memory 115) (d.0 cut_late) e
-      (λ q. found-not-absent _ _ computed.kept (sym in-half ∙ computed.reloaded) (q ∙ ap (λ (m : Ledger). answer_from 115 (list_in 1 m)) (omitted (insertion 1 115 12 0) false 2560 0 f 11 ps)))
+      (λ q. found-not-absent _ _ computed.kept (sym in-half ∙ computed.reloaded)
+      (q ∙ ap (λ (m : Ledger). answer_from 115 (list_in 1 m)) (omitted (insertion 1 115 12 0) false 2560 0 f 11 ps)))
 
 -- so does the choice of which demand 3 holds
-pub split-kept : (choose : History → Bool) × (StandsFrom choose (nodes full) (both full) start cut_late × (choose cut_half ≡ false) × (choose cut_late ≡ true))
-split-kept = let d = packed-start 1 eleven_pairs [] (replicate 104 0) counted.packs in (d.0, (d.1 cut_late happens, first-omitted d, second-taken d))
+pub split-kept : (choose : History → Bool)
+    × (StandsFrom choose (nodes full) (both full) start cut_late × (choose cut_half ≡ false) × (choose cut_late ≡ true))
+split-kept = let d =
+    packed-start 1 eleven_pairs [] (replicate 104 0) counted.packs in (d.0, (d.1 cut_late happens, first-omitted d, second-taken d))

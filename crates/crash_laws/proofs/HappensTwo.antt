@@ -1,13 +1,8 @@
--- A history of two collections that may happen, computed: an insertion into 1, one into 2 that is cut after three of its five orders, then a
+-- A history of two collections that may happen, computed: an insertion into 1, one into 2 that is cut after three of its five orders, then
+-- a
 -- deletion of 1, which finishes what the cut left in 2.
-use mathlib.Core.Path.{◌≡◌, refl}
-use mathlib.Core.Logic.{inr}
-use mathlib.Core.Bool.{Bool, true, false}
-use mathlib.Core.List.{List, [], ◌∷◌}
+use Rattle.std.proofs.Common.{◌≡◌, ℕ, ◌≤◌, Bool, true, false, List, [], ◌∷◌, length, take, refl, inr, arith}
 use mathlib.Core.Option.{some}
-use Prim.Native.Nat.{ℕ, ◌≤◌}
-use native.Mathlib.Omega.{arith}
-use lib.ListN.{length, take}
 use Rattle.model.specs.declared.Answer.TheVariants.{Found, Absent}
 use Rattle.std.specs.Prelude.{None}
 use Rattle.model.specs.Table.{Words}
@@ -60,7 +55,8 @@ happens-kept = let d = demand3 2 2 (inr refl) (omega arith) (omega arith) in (d.
 
 -- No call was refused; the image is sound, not settled, and has the pair of 1 and none of 2; the deletion leaves nothing unfinished.
 pub record Computed : Type 0 where
-  pub all-accepted : (number_of (run_all 2 2 []) (event (insertion 1 20 102 1) whole) ≡ 0) × (number_of (run_all 2 2 inserted) (event (insertion 2 20 102 0) (cut 3 image)) ≡ 0)
+  pub all-accepted : (number_of (run_all 2 2 []) (event (insertion 1 20 102 1) whole) ≡ 0)
+      × (number_of (run_all 2 2 inserted) (event (insertion 2 20 102 0) (cut 3 image)) ≡ 0)
       × (number_of (run_all 2 2 cut_short) (event (deletion 1 20) whole) ≡ 0)
   pub five-orders : length orders_cut ≡ 5
   pub image-sound : (sound image ≡ true) × (settled image ≡ false)

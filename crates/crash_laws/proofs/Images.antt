@@ -1,13 +1,7 @@
 -- Every way in which a cut may fall has its image: of each line some part of its later stores that may arrive on the dock.
-use mathlib.Core.Path.{◌≡◌, refl, sym, ap, ◌∙◌}
-use mathlib.Core.Logic.{inr}
-use mathlib.Core.Bool.{Bool, true, false}
-use mathlib.Core.List.{List, [], ◌∷◌}
-use Prim.Native.Nat.{ℕ, zero, suc, ◌≤◌, ◌<◌}
-use native.Mathlib.Omega.{arith}
-use lib.Dec.{ltb}
-use borrow.Author.Tests.{ltb-true, ltb-false}
-use lib.ListN.{length, take, get_or-eq_default}
+use Rattle.std.proofs.Common.{◌≡◌, ℕ, zero, suc, ◌<◌, ◌≤◌, Bool, true, false, ltb, List, [], ◌∷◌, length, take, sym, refl, ap, ◌∙◌, inr}
+use Rattle.std.proofs.Common.{arith, ltb-false, ltb-true}
+use lib.ListN.{get_or-eq_default}
 use Rattle.model.specs.Table.{Words, at, line}
 use Rattle.model.specs.Orders.{Store, Order, apply, carry}
 use Rattle.model.specs.Cuts.{up_to_flush, since_flush, line_stores, later_stores, to_barrier, choice, MayArrive, Image}
@@ -53,7 +47,8 @@ module _ (part : ℕ → List Store) (t : Words) (os : List Order) where
       go true h = values-at (length t) word_of w (ltb-true w (length t) h) ∙ rw e
       go false h =
           let past : length t ≤ w = ltb-false w (length t) h in
-          get_or-eq_default (values (length t) word_of) 0 (rw values-length past) ∙ sym (get_or-eq_default (with_line l) 0 (rw (line-length l) past))
+          get_or-eq_default (values (length t) word_of) 0 (rw values-length past)
+          ∙ sym (get_or-eq_default (with_line l) 0 (rw (line-length l) past))
 
   image_by-image : (dock : ℕ) → ((l : ℕ) → MayArrive dock l os (part l)) → Image dock t os image_by
   unfolding image_by with_line
@@ -78,4 +73,5 @@ module _ (marks : ℕ → List Bool) (t : Words) (os : List Order) where
   pub image_with-image : Image 1 t os (image_by (λ (l : ℕ). choice (marks l) (line_stores l (to_barrier (since_flush l os)))) t os)
   unfolding line_stores
   image_with-image =
-      image_by-image chosen t os 1 (λ l. record { before = []; rest = since_flush l os; marks = marks l; parted = refl; up-to = inr refl; holds = refl })
+      image_by-image chosen t os 1
+      (λ l. record { before = []; rest = since_flush l os; marks = marks l; parted = refl; up-to = inr refl; holds = refl })

@@ -1,20 +1,17 @@
 -- Demand 3 with quick calls, from demand 3 of the plain ones: a summary that is there is true of the working copy.
-use mathlib.Core.Path.{◌≡◌, refl, ap, ◌∙◌}
-use mathlib.Core.Bool.{Bool, true, false, cond, not}
-use mathlib.Core.List.{[], ◌∷◌}
+use Rattle.std.proofs.Common.{◌≡◌, ℕ, zero, suc, Bool, true, false, cond, not, eqb, [], ◌∷◌, length, refl, ap, ◌∙◌, arith}
 use mathlib.Core.Option.{Option, none, some}
-use Prim.Native.Nat.{ℕ, zero, suc}
-use native.Mathlib.Omega.{arith}
-use lib.Dec.{eqb}
-use lib.ListN.{length}
 use Rattle.model.specs.Table.{Words, nodes, header_ok}
 use Rattle.model.specs.Reached.{maps_of}
 use Rattle.model.specs.SoundTest.{settled, sound}
 use Rattle.model.specs.Refusals.{unless_refused, test, first_number}
-use Rattle.model.specs.Demand3.{Fate, whole, cut, Event, History, State, both, number_of, after_fate, after_refusal, step, run_from, FateMay, MayFrom}
+use Rattle.model.specs.Demand3.{Fate, whole, cut, Event, History, State, both, number_of, after_fate, after_refusal, step, run_from}
+use Rattle.model.specs.Demand3.{FateMay, MayFrom}
 use Rattle.model.specs.Summary.{summary_words, opened, open_number, opened_words}
-use Rattle.model.specs.QuickHistories.{call, opens, quick, Act, Acts, Host, host, quick_number_of, quick_after, quick_refused, quick_step, act_step, run_acts}
-use Rattle.model.specs.QuickHistories.{QuickFate, QuickMay, MayActs, plainly, plain, Same, OpensRight, LastRight, SameFrom, KeptActs, Demand3Quick}
+use Rattle.model.specs.QuickHistories.{call, opens, quick, Act, Acts, Host, host, quick_number_of, quick_after, quick_refused, quick_step}
+use Rattle.model.specs.QuickHistories.{act_step, run_acts}
+use Rattle.model.specs.QuickHistories.{QuickFate, QuickMay, MayActs, plainly, plain, Same, OpensRight, LastRight, SameFrom, KeptActs}
+use Rattle.model.specs.QuickHistories.{Demand3Quick}
 use Rattle.two_laws.proofs.SearchTwo.{sound-head}
 use Rattle.summary_laws.specs.Current.{Current}
 use Rattle.summary_laws.proofs.Opened.{opened-current}
@@ -57,7 +54,8 @@ module _ (ws : Words) (s : State) (e : Event) (c : Current ws s.working) where
   quick-state = go (number_of s (plainly e)) same.number
     where
       go : (m : ℕ) → quick_number_of ws s e ≡ m
-          → (unless_refused (quick_number_of ws s e) (quick_after e.fate ws s e) (quick_refused ws s e)).state ≡ unless_refused m (after_fate e.fate s (plainly e)) (after_refusal s (plainly e))
+          → (unless_refused (quick_number_of ws s e) (quick_after e.fate ws s e) (quick_refused ws s e)).state
+          ≡ unless_refused m (after_fate e.fate s (plainly e)) (after_refusal s (plainly e))
       go zero q = rw q (after-state e.fate)
       go (suc m) q = rw q refused-state
 
@@ -100,7 +98,8 @@ opens-settled : (m : ℕ) (t : Words) → open_number m t ≡ 0 → settled t �
 unfolding open_number
 opens-settled m t e = go (header_ok t) (eqb m (summary_words (nodes t))) (sound t) (settled t) refl e
   where
-    go : (a b c d : Bool) → settled t ≡ d → first_number (test (not a) 2 ∷ test (not b) 26 ∷ test (not c) 4 ∷ test (not d) 20 ∷ []) ≡ 0 → settled t ≡ true
+    go : (a b c d : Bool) → settled t ≡ d
+        → first_number (test (not a) 2 ∷ test (not b) 26 ∷ test (not c) 4 ∷ test (not d) 20 ∷ []) ≡ 0 → settled t ≡ true
     go true true true true q e = q
     go true true true false q e = absurd (omega arith)
     go true true false d q e = absurd (omega arith)
@@ -111,7 +110,8 @@ opens-right : (m : ℕ) (t : Words) → sound t ≡ true → OpensRight m t
 unfolding open_number
 opens-right m t s = rw (sound-head t s, s) (go (eqb m (summary_words (nodes t))) (settled t))
   where
-    go : (b d : Bool) → first_number (test (not true) 2 ∷ test (not b) 26 ∷ test (not true) 4 ∷ test (not d) 20 ∷ []) ≡ cond b (cond d 0 20) 26
+    go : (b d : Bool) → first_number (test (not true) 2 ∷ test (not b) 26 ∷ test (not true) 4 ∷ test (not d) 20 ∷ [])
+        ≡ cond b (cond d 0 20) 26
     go true true = refl
     go true false = refl
     go false d = refl
@@ -123,9 +123,11 @@ opens-good lent h g = go (open_number (length lent) h.state.working) refl
     words-are q = unfold opened_words in rw q
 
     go : (k : ℕ) → open_number (length lent) h.state.working ≡ k
-        → Good (host h.state (unless_refused (open_number (length lent) h.state.working) (some (opened_words lent h.state.working)) h.summary))
+        → Good (host h.state
+        (unless_refused (open_number (length lent) h.state.working) (some (opened_words lent h.state.working)) h.summary))
     go zero q =
-        let c : Current (opened_words lent h.state.working) h.state.working = rw (words-are q) (opened-current h.state.working (opens-settled (length lent) h.state.working q)) in
+        let c : Current (opened_words lent h.state.working) h.state.working =
+        rw (words-are q) (opened-current h.state.working (opens-settled (length lent) h.state.working q)) in
         rw q (λ w y. rw (some-is _ w y) at c)
     go (suc k) q = rw q g
 
@@ -136,13 +138,15 @@ pub record Beside (s : State) (h : Acts) : Type 0 where
   pub good : Good (run_acts s h)
   pub may : MayFrom s (plain h)
 
-quick-beside : (e : Event) (s u : State) (w : Option Words) (p : History) → u ≡ run_from s p → Good (host u w) → MayFrom s p → QuickMay w u e
+quick-beside : (e : Event) (s u : State) (w : Option Words) (p : History) → u ≡ run_from s p → Good (host u w)
+    → MayFrom s p → QuickMay w u e
     → ((quick_step w u e).state ≡ run_from s (plainly e ∷ p)) × Good (quick_step w u e) × MayFrom s (plainly e ∷ p)
 unfolding run_from MayFrom
 quick-beside e s u none p q g m f = absurd f
 quick-beside e s u (some ws) p q g m f =
     let c = g ws refl in
-    let may : number_of u (plainly e) ≡ 0 → FateMay e.fate u (plainly e) = λ z. fate-same ws u e c e.fate (f ((same ws u e c).number ∙ z)) in
+    let may : number_of u (plainly e) ≡ 0 → FateMay e.fate u (plainly e) =
+    λ z. fate-same ws u e c e.fate (f ((same ws u e c).number ∙ z)) in
     (quick-state ws u e c ∙ ap (λ (x : State). step x (plainly e)) q, quick-good ws u e c, (m, rw q at may))
 
 pub beside : (s : State) (h : Acts) → MayActs s h → Beside s h
@@ -151,7 +155,8 @@ beside s [] m = record { state = refl; good = λ w y. absurd (not-some w y); may
 beside s (call e ∷ h) m =
     let b = beside s h m.0 in
     record { state = ap (λ (u : State). step u e) b.state; good = call-good e (run_acts s h) b.good; may = (b.may, rw b.state at m.1) }
-beside s (opens lent ∷ h) m = let b = beside s h m.0 in record { state = b.state; good = opens-good lent (run_acts s h) b.good; may = b.may }
+beside s (opens lent ∷ h) m = let b =
+    beside s h m.0 in record { state = b.state; good = opens-good lent (run_acts s h) b.good; may = b.may }
 beside s (quick e ∷ h) m =
     let b = beside s h m.0 in
     let q = quick-beside e s (run_acts s h).state (run_acts s h).summary (plain h) b.state b.good b.may m.1 in
@@ -179,7 +184,8 @@ demand3-quick t q = ((demand3-from t q).0, λ h m. kept h m)
     last : (h : Acts) → MayActs (both t) h → LastRight (both t) h
     last [] m = tt
     last (call e ∷ h) m = tt
-    last (opens lent ∷ h) m = opens-right (length lent) (run_acts (both t) h).state.working (sound-then h (before (both t) (opens lent) h m))
+    last (opens lent ∷ h) m =
+        opens-right (length lent) (run_acts (both t) h).state.working (sound-then h (before (both t) (opens lent) h m))
     last (quick e ∷ h) m = λ ws y. same ws (run_acts (both t) h).state e ((beside (both t) h (before (both t) (quick e) h m)).good ws y)
 
     kept : (h : Acts) → MayActs (both t) h → KeptActs (demand3-from t q).0 (nodes t) (both t) (maps_of t) h

@@ -1,10 +1,6 @@
 -- A batch with a summary is the quick insertions of the pairs that it took.
-use mathlib.Core.Path.{◌≡◌, refl, ap, sym, ◌∙◌}
-use mathlib.Core.List.{List, [], ◌∷◌, ◌++◌, append_assoc}
+use Rattle.std.proofs.Common.{◌≡◌, ℕ, zero, suc, ◌*◌, List, [], ◌∷◌, ◌++◌, length, drop, sym, refl, ap, ◌∙◌, append_assoc, arith}
 use mathlib.Core.Option.{some}
-use Prim.Native.Nat.{ℕ, zero, suc, ◌*◌}
-use native.Mathlib.Omega.{arith}
-use lib.ListN.{length, drop}
 use Rattle.std.specs.Prelude.{Ok, Err}
 use Rattle.model.specs.declared.Refusal.{Refusal}
 use Rattle.model.specs.declared.Counts.{Counts}
@@ -27,7 +23,8 @@ use Rattle.crash_laws.proofs.Demand3.{along}
 use Rattle.crash_laws.proofs.Batches.{batches}
 use Rattle.crash_laws.proofs.QuickHistories.{beside, demand3-quick}
 
-host-is : (x : Host) (u w : Words) → x.state.memory ≡ x.state.working → x.state.working ≡ u → x.summary ≡ some w → x ≡ host (both u) (some w)
+host-is : (x : Host) (u w : Words) → x.state.memory ≡ x.state.working → x.state.working ≡ u → x.summary ≡ some w → x
+    ≡ host (both u) (some w)
 host-is x u w a b c = λ i. record { state = record { memory = (a ∙ b) i; working = b i }; summary = c i }
 
 -- ---- one pair
@@ -38,7 +35,8 @@ module _ (n dock : ℕ) (s : Slot) (ss : List Slot) (list ws u : Words) where
 
   -- those of the pairs after it
   abbrev rest : (used : ℕ) → Acts
-  rest used = singles n dock ss (drop used (quick_list x list dock ws u)) (quick_summary x (length list) dock ws u) (quick_table x (length list) dock ws u)
+  rest used = singles n dock ss (drop used (quick_list x list dock ws u)) (quick_summary x (length list) dock ws u)
+      (quick_table x (length list) dock ws u)
 
   abbrev next : Written → Acts
   next w = elim w [ Ok w ↦ rest (2 * orders_counted w) ++ (quick (pair_event n dock list s) ∷ []) | Err r ↦ [] ]
@@ -47,11 +45,13 @@ module _ (n dock : ℕ) (s : Slot) (ss : List Slot) (list ws u : Words) where
   unfolding singles
   singles-stop r e = ap (λ (w : Written). next w) e
 
-  singles-go : (w : Counts) → quick_written (insertion_of n s) (length list) dock ws u ≡ Ok w → singles n dock (s ∷ ss) list ws u ≡ rest (2 * orders_counted w) ++ (quick (pair_event n dock list s) ∷ [])
+  singles-go : (w : Counts) → quick_written (insertion_of n s) (length list) dock ws u ≡ Ok w → singles n dock (s ∷ ss) list ws u
+      ≡ rest (2 * orders_counted w) ++ (quick (pair_event n dock list s) ∷ [])
   unfolding singles
   singles-go w e = ap (λ (w : Written). next w) e
 
-  accepted : (w : Counts) → quick_written (insertion_of n s) (length list) dock ws u ≡ Ok w → quick_number (insertion_of n s) (length list) dock ws u ≡ 0
+  accepted : (w : Counts) → quick_written (insertion_of n s) (length list) dock ws u ≡ Ok w
+      → quick_number (insertion_of n s) (length list) dock ws u ≡ 0
   unfolding quick_written
   accepted w e = go (quick_number x (length list) dock ws u) _ e
     where
@@ -68,7 +68,8 @@ module _ (t : Words) (q : Sound t) where
       let b = beside (both t) h m in
       ap (λ (s : State). s.memory) b.state ∙ (along t q (plain h) b.may).0 ∙ sym (ap (λ (s : State). s.working) b.state)
 
-  module _ (n dock : ℕ) (s : Slot) (list ws u : Words) (h : Acts) (m : MayActs (both t) h) (is : run_acts (both t) h ≡ host (both u) (some ws)) where
+  module _ (n dock : ℕ) (s : Slot) (list ws u : Words) (h : Acts) (m : MayActs (both t) h)
+      (is : run_acts (both t) h ≡ host (both u) (some ws)) where
     abbrev e : Event
     e = pair_event n dock list s
 
@@ -76,35 +77,47 @@ module _ (t : Words) (q : Sound t) where
     unfolding MayActs
     may-go = (m, rw is (λ z. tt))
 
-    after-is : quick_number (insertion_of n s) (length list) dock ws u ≡ 0 → run_acts (both t) (quick e ∷ h) ≡ quick_after whole ws (both u) e
+    after-is : quick_number (insertion_of n s) (length list) dock ws u ≡ 0 → run_acts (both t) (quick e ∷ h)
+        ≡ quick_after whole ws (both u) e
     unfolding run_acts
     after-is z = ap (act_step (quick e)) is ∙ rw z
 
     goes-on : quick_number (insertion_of n s) (length list) dock ws u ≡ 0
-        → run_acts (both t) (quick e ∷ h) ≡ host (both (quick_table (insertion_of n s) (length list) dock ws u)) (some (quick_summary (insertion_of n s) (length list) dock ws u))
-    goes-on z = host-is (run_acts (both t) (quick e ∷ h)) _ _ (same-copy (quick e ∷ h) may-go) (ap (λ (x : Host). x.state.working) (after-is z)) (ap (λ (x : Host). x.summary) (after-is z))
+        → run_acts (both t) (quick e ∷ h)
+        ≡ host (both (quick_table (insertion_of n s) (length list) dock ws u))
+        (some (quick_summary (insertion_of n s) (length list) dock ws u))
+    goes-on z = host-is (run_acts (both t) (quick e ∷ h)) _ _ (same-copy (quick e ∷ h) may-go)
+        (ap (λ (x : Host). x.state.working) (after-is z)) (ap (λ (x : Host). x.summary) (after-is z))
 
   -- what the singles come to
   record Come (n dock : ℕ) (ss : List Slot) (list ws u : Words) (h : Acts) : Type 0 where
     may : MayActs (both t) (singles n dock ss list ws u ++ h)
-    come : run_acts (both t) (singles n dock ss list ws u ++ h) ≡ host (both (quick_batch n dock ss list ws u).batched.table) (some (quick_batch n dock ss list ws u).summary)
+    come : run_acts (both t) (singles n dock ss list ws u ++ h)
+        ≡ host (both (quick_batch n dock ss list ws u).batched.table) (some (quick_batch n dock ss list ws u).summary)
 
-  all-come : (n dock : ℕ) (ss : List Slot) (list ws u : Words) (h : Acts) → MayActs (both t) h → run_acts (both t) h ≡ host (both u) (some ws) → Come n dock ss list ws u h
+  all-come : (n dock : ℕ) (ss : List Slot) (list ws u : Words) (h : Acts) → MayActs (both t) h → run_acts (both t) h
+      ≡ host (both u) (some ws) → Come n dock ss list ws u h
   all-come n dock [] list ws u h m is = record { may = unfold singles in m; come = unfold singles quick_batch in is }
   all-come n dock (s ∷ ss) list ws u h m is =
       go (quick_written (insertion_of n s) (length list) dock ws u) refl
-      (λ l z. all-come n dock ss l (quick_summary (insertion_of n s) (length list) dock ws u) (quick_table (insertion_of n s) (length list) dock ws u) (quick (pair_event n dock list s) ∷ h)
+      (λ l z. all-come n dock ss l (quick_summary (insertion_of n s) (length list) dock ws u)
+      (quick_table (insertion_of n s) (length list) dock ws u) (quick (pair_event n dock list s) ∷ h)
       (may-go n dock s list ws u h m is) (goes-on n dock s list ws u h m is z))
     where
       go : (w : Written) → quick_written (insertion_of n s) (length list) dock ws u ≡ w
           → ((l : Words) → quick_number (insertion_of n s) (length list) dock ws u ≡ 0
-          → Come n dock ss l (quick_summary (insertion_of n s) (length list) dock ws u) (quick_table (insertion_of n s) (length list) dock ws u) (quick (pair_event n dock list s) ∷ h))
+          → Come n dock ss l (quick_summary (insertion_of n s) (length list) dock ws u)
+          (quick_table (insertion_of n s) (length list) dock ws u) (quick (pair_event n dock list s) ∷ h))
           → Come n dock (s ∷ ss) list ws u h
-      go (Err k) e ih = record { may = rw (singles-stop n dock s ss list ws u k e) m; come = rw (singles-stop n dock s ss list ws u k e, quick-stops n dock s ss list ws u k e) is }
+      go (Err k) e ih = record {
+        may = rw (singles-stop n dock s ss list ws u k e) m;
+        come = rw (singles-stop n dock s ss list ws u k e, quick-stops n dock s ss list ws u k e) is;
+      }
       go (Ok w) e ih =
           let filled = 2 * orders_counted w in
           let r = ih (drop filled (quick_list (insertion_of n s) list dock ws u)) (accepted n dock s ss list ws u w e) in
-          let acts = singles n dock ss (drop filled (quick_list (insertion_of n s) list dock ws u)) (quick_summary (insertion_of n s) (length list) dock ws u) (quick_table (insertion_of n s) (length list) dock ws u) in
+          let acts = singles n dock ss (drop filled (quick_list (insertion_of n s) list dock ws u))
+          (quick_summary (insertion_of n s) (length list) dock ws u) (quick_table (insertion_of n s) (length list) dock ws u) in
           let shape : singles n dock (s ∷ ss) list ws u ++ h ≡ acts ++ (quick (pair_event n dock list s) ∷ h) =
           ap (λ (x : Acts). x ++ h) (singles-go n dock s ss list ws u w e) ∙ append_assoc acts (quick (pair_event n dock list s) ∷ []) h in
           record { may = rw shape r.may; come = ap (run_acts (both t)) shape ∙ r.come ∙ rw (quick-goes n dock s ss list ws u w e) }
@@ -116,7 +129,8 @@ module _ (t : Words) (q : Sound t) where
         → (let r = batch n dock ss list s.working in carried_out (batch_answered r) r.list s.memory ≡ r.table)
     gives-at s e = rw e ((batches t q).1 (plain h) (beside (both t) h m).may n dock ss list).0.gives
 
-    gives : (r : Batched) → r ≡ batch n dock ss list (run_acts (both t) h).state.working → carried_out (batch_answered r) r.list (run_acts (both t) h).state.memory ≡ r.table
+    gives : (r : Batched) → r ≡ batch n dock ss list (run_acts (both t) h).state.working
+        → carried_out (batch_answered r) r.list (run_acts (both t) h).state.memory ≡ r.table
     gives r e = rw e (gives-at (run_acts (both t) h).state (beside (both t) h m).state)
 
 pub quick-singles : QuickSingles
@@ -125,5 +139,8 @@ quick-singles t q h m ws e n dock ss list =
     let start = host-is (run_acts (both t) h) s.working ws (same-copy t q h m) refl e in
     let c = all-come t q n dock ss list ws s.working h m start in
     let same = (((demand3-quick t q).1 h m).next ws e).batches n dock ss list in
-    let r = quick_batch n dock ss list ws s.working in
-    (c.may, c.come ∙ ap (λ (memory : Words). host (record { memory = memory; working = r.batched.table }) (some r.summary)) (sym (gives t q h m n dock ss list r.batched same)))
+    let r = quick_batch n dock ss list ws s.working in (
+      c.may,
+      c.come ∙ ap (λ (memory : Words). host (record { memory = memory; working = r.batched.table }) (some r.summary))
+          (sym (gives t q h m n dock ss list r.batched same)),
+    )

@@ -1,7 +1,5 @@
 -- Demand 3 from the tables that the tools build: a load's packed table, and a salvaged one. (The empty one: demand3.)
-use mathlib.Core.Path.{◌≡◌}
-use Prim.Native.Nat.{ℕ}
-use lib.ListN.{length}
+use Rattle.std.proofs.Common.{◌≡◌, ℕ, length}
 use Rattle.model.specs.Table.{Words, nodes}
 use Rattle.model.specs.Reached.{maps_of}
 use Rattle.model.specs.Pack.{maps_in, pack_number, pack_out}
@@ -13,14 +11,16 @@ use Rattle.tour_laws.proofs.Calls.{salvaged-settled, salvaged-nodes, salvaged-ma
 use Rattle.crash_laws.proofs.Demand3.{demand3-from}
 
 -- An accepted packing: the ledger is the pairs of its slices.
-pub packed-start : (n : ℕ) (pairs loans t : Words) → pack_number n pairs loans t ≡ 0 → HoldsFrom (nodes (pack_out n pairs loans t)) (pack_out n pairs loans t) (maps_in n pairs loans)
+pub packed-start : (n : ℕ) (pairs loans t : Words) → pack_number n pairs loans t ≡ 0
+    → HoldsFrom (nodes (pack_out n pairs loans t)) (pack_out n pairs loans t) (maps_in n pairs loans)
 packed-start n pairs loans t z =
     let u = pack_out n pairs loans t in
     let d : HoldsFrom (nodes u) u (maps_of u) = demand3-from u ((sound-same u).0 (settled-sound u (pack-settled n pairs loans t z))) in
     rw (pack-maps n pairs loans t z) at d
 
 -- An accepted salvage: N is the old table's, and the ledger is the pairs that it kept.
-pub salvaged-start : (t out : Words) (report : ℕ) → salvage_number t (length out) report ≡ 0 → HoldsFrom (nodes t) (salvage_out t out report) (kept_maps t)
+pub salvaged-start :
+    (t out : Words) (report : ℕ) → salvage_number t (length out) report ≡ 0 → HoldsFrom (nodes t) (salvage_out t out report) (kept_maps t)
 salvaged-start t out report z =
     let u = salvage_out t out report in
     let d : HoldsFrom (nodes u) u (maps_of u) = demand3-from u ((sound-same u).0 (settled-sound u (salvaged-settled t out report z))) in

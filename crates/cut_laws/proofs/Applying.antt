@@ -1,11 +1,6 @@
 -- Applying stores and carrying orders out: lengths, lists in a row, agreement word by word; flushes and barriers change no word.
-use mathlib.Core.Path.{◌≡◌, refl, sym, ap, ◌∙◌}
-use mathlib.Core.Logic.{◌≢◌}
-use mathlib.Core.List.{List, [], ◌∷◌, ◌++◌}
-use Prim.Native.Nat.{ℕ, zero, suc, ◌+◌, ◌≤◌}
-use native.Mathlib.Omega.{arith}
-use lib.ListN.{length, take, set, length-set}
-use lib.Seq.{get_or-set_other}
+use Rattle.std.proofs.Common.{◌≡◌, ℕ, zero, suc, ◌+◌, ◌≤◌, ◌≢◌, List, [], ◌∷◌, ◌++◌, length, take, set, sym, refl, ap, ◌∙◌, arith}
+use Rattle.std.proofs.Common.{length-set, get_or-set_other}
 use Rattle.model.specs.Table.{Words, at, line}
 use Rattle.model.specs.Orders.{Store, Order, store, flush, barrier, apply, carry, store_count, flush_count, barrier_count}
 use Rattle.cut_laws.specs.Unflushed.{stores_in}
@@ -13,22 +8,26 @@ pub use Rattle.list_laws.proofs.Lists.{take-append}
 
 -- ---- stores
 
+-- stores keep the length of a table
 pub length-apply : (ss : List Store) (t : Words) → length (apply ss t) ≡ length t
 unfolding apply
 length-apply [] t = refl
 length-apply (s ∷ ss) t = length-apply ss _ ∙ length-set t s.word s.value
 
+-- no stores change nothing
 pub apply-nil : (t : Words) → apply [] t ≡ t
 unfolding apply
 apply-nil t = refl
 
+-- applying joined lists of stores is applying the one, then the other
 pub apply-append : (a b : List Store) (t : Words) → apply (a ++ b) t ≡ apply b (apply a t)
 unfolding apply
 apply-append [] b t = refl
 apply-append (s ∷ a) b t = apply-append a b _
 
 -- What holds after each first part of a, and from there after each first part of b, holds after each first part of both.
-pub always-append : (P : Words → Type 0) (a b : List Store) (t : Words) → ((i : ℕ) → P (apply (take i a) t)) → ((i : ℕ) → P (apply (take i b) (apply a t))) → (i : ℕ) → P (apply (take i (a ++ b)) t)
+pub always-append : (P : Words → Type 0) (a b : List Store) (t : Words) → ((i : ℕ) → P (apply (take i a) t))
+    → ((i : ℕ) → P (apply (take i b) (apply a t))) → (i : ℕ) → P (apply (take i (a ++ b)) t)
 unfolding apply
 always-append P [] b t f g i = g i
 always-append P (s ∷ a) b t f g zero = f 0
@@ -36,6 +35,7 @@ always-append P (s ∷ a) b t f g (suc i) = always-append P a b _ (λ k. f (suc 
 
 -- ---- orders
 
+-- orders keep the length of a table
 pub length-carry : (os : List Order) (t : Words) → length (carry os t) ≡ length t
 unfolding carry
 length-carry [] t = refl
@@ -43,10 +43,12 @@ length-carry (store s ∷ os) t = length-carry os _ ∙ length-set t s.word s.va
 length-carry (flush l ∷ os) t = length-carry os t
 length-carry (barrier ∷ os) t = length-carry os t
 
+-- no orders change nothing
 pub carry-nil : (t : Words) → carry [] t ≡ t
 unfolding carry
 carry-nil t = refl
 
+-- carrying out joined lists of orders is carrying out the one, then the other
 pub carry-append : (a b : List Order) (t : Words) → carry (a ++ b) t ≡ carry b (carry a t)
 unfolding carry
 carry-append [] b t = refl
@@ -87,6 +89,7 @@ store_count-stores (store s ∷ os) = ap suc (store_count-stores os)
 store_count-stores (flush l ∷ os) = store_count-stores os
 store_count-stores (barrier ∷ os) = store_count-stores os
 
+-- the stores of joined lists are counted by the sum
 pub store_count-append : (a b : List Order) → store_count (a ++ b) ≡ store_count a + store_count b
 unfolding store_count
 store_count-append [] b = omega arith
@@ -94,6 +97,7 @@ store_count-append (store s ∷ a) b = omega (arith, store_count-append a b)
 store_count-append (flush l ∷ a) b = store_count-append a b
 store_count-append (barrier ∷ a) b = store_count-append a b
 
+-- the flushes of joined lists are counted by the sum
 pub flush_count-append : (a b : List Order) → flush_count (a ++ b) ≡ flush_count a + flush_count b
 unfolding flush_count
 flush_count-append [] b = omega arith
@@ -101,6 +105,7 @@ flush_count-append (store s ∷ a) b = flush_count-append a b
 flush_count-append (flush l ∷ a) b = omega (arith, flush_count-append a b)
 flush_count-append (barrier ∷ a) b = flush_count-append a b
 
+-- the barriers of joined lists are counted by the sum
 pub barrier_count-append : (a b : List Order) → barrier_count (a ++ b) ≡ barrier_count a + barrier_count b
 unfolding barrier_count
 barrier_count-append [] b = omega arith
@@ -138,6 +143,7 @@ set-agree (y ∷ t) (z ∷ u) zero x (suc w) l e = e
 set-agree (y ∷ t) (z ∷ u) (suc a) x zero l e = e
 set-agree (y ∷ t) (z ∷ u) (suc a) x (suc w) l e = set-agree t u a x w (omega arith) e
 
+-- tables of one length that agree in word w still agree in it after the same stores
 pub apply-agree : (ss : List Store) (t u : Words) (w : ℕ) → length t ≡ length u → at t w ≡ at u w → at (apply ss t) w ≡ at (apply ss u) w
 unfolding apply
 apply-agree [] t u w l e = e

@@ -1,11 +1,8 @@
 -- Orders with barriers and without: the stores, counts and words that they share, and their first parts.
-use mathlib.Core.Path.{◌≡◌, refl, sym, ap, ◌∙◌}
-use mathlib.Core.List.{List, [], ◌∷◌, ◌++◌}
-use Prim.Native.Nat.{ℕ, zero, suc, ◌+◌, ◌*◌, ◌≤◌}
-use native.Mathlib.Omega.{arith}
-use lib.ListN.{length, take}
+use Rattle.std.proofs.Common.{◌≡◌, ℕ, zero, suc, ◌+◌, ◌*◌, ◌≤◌, List, [], ◌∷◌, ◌++◌, length, take, sym, refl, ap, ◌∙◌, arith}
 use Rattle.model.specs.Table.{Words}
-use Rattle.model.specs.Orders.{Order, store, flush, barrier, carry, with_barriers, barred, without_barriers, store_count, flush_count, barrier_count, all_inside}
+use Rattle.model.specs.Orders.{Order, store, flush, barrier, carry, with_barriers, barred, without_barriers, store_count, flush_count}
+use Rattle.model.specs.Orders.{barrier_count, all_inside}
 use Rattle.cut_laws.specs.Unflushed.{stores_in}
 use Rattle.cut_laws.proofs.Applying.{counts-length}
 
@@ -54,7 +51,8 @@ without-append (flush l ∷ a) b = ap (λ q. flush l ∷ q) (without-append a b)
 without-append (barrier ∷ a) b = without-append a b
 
 -- of the first orders there remain the first of those that remain
-pub without-take : (c : ℕ) (os : List Order) → without_barriers (take c os) ≡ take (length (without_barriers (take c os))) (without_barriers os)
+pub without-take : (c : ℕ) (os : List Order) → without_barriers (take c os)
+    ≡ take (length (without_barriers (take c os))) (without_barriers os)
 unfolding without_barriers
 without-take zero os = refl
 without-take (suc c) [] = refl
@@ -71,6 +69,7 @@ with-append (store s ∷ a) b = ap (λ q. store s ∷ barrier ∷ q) (with-appen
 with-append (flush l ∷ a) b = ap (λ q. flush l ∷ q) (with-append a b)
 with-append (barrier ∷ a) b = ap (λ q. barrier ∷ q) (with-append a b)
 
+-- joined lists as their dock needs them are the one, then the other, as the dock needs them
 pub barred-append : (dock : ℕ) (a b : List Order) → barred dock (a ++ b) ≡ barred dock a ++ barred dock b
 barred-append zero a b = refl
 barred-append (suc n) a b = with-append a b
@@ -91,15 +90,19 @@ module _ {A : Type 0} (f : List Order → A) (same : (os : List Order) → f (wi
   barred-same : (dock : ℕ) (os : List Order) → f (barred dock os) ≡ f os
   barred-same dock os = sym (same (barred dock os)) ∙ ap f (without-barred dock os) ∙ same os
 
+-- the barriers of a dock change none of the stores
 pub barred-stores : (dock : ℕ) (os : List Order) → stores_in (barred dock os) ≡ stores_in os
 barred-stores = barred-same stores_in without-stores
 
+-- a list with its dock's barriers leaves the same table as without
 pub barred-carry : (dock : ℕ) (os : List Order) (t : Words) → carry (barred dock os) t ≡ carry os t
 barred-carry dock os t = barred-same (λ (os : List Order). carry os t) (λ os. without-carry os t) dock os
 
+-- the barriers of a dock do not change the count of stores
 pub barred-store_count : (dock : ℕ) (os : List Order) → store_count (barred dock os) ≡ store_count os
 barred-store_count = barred-same store_count without-store_count
 
+-- the barriers of a dock do not change the count of flushes
 pub barred-flush_count : (dock : ℕ) (os : List Order) → flush_count (barred dock os) ≡ flush_count os
 barred-flush_count = barred-same flush_count without-flush_count
 
@@ -111,6 +114,7 @@ without-inside n (store s ∷ os) = rw (without-inside n os)
 without-inside n (flush l ∷ os) = rw (without-inside n os)
 without-inside n (barrier ∷ os) = without-inside n os
 
+-- a list with its dock's barriers lies inside a table exactly if it does without
 pub barred-inside : (dock n : ℕ) (os : List Order) → all_inside n (barred dock os) ≡ all_inside n os
 barred-inside dock n os = barred-same (all_inside n) (without-inside n) dock os
 
@@ -125,12 +129,30 @@ with-barrier_count (barrier ∷ os) = omega (arith, with-barrier_count os)
 -- so that its list is at most twice as long, and no shorter
 pub barred-length : (dock : ℕ) (os : List Order) → length (barred dock os) ≤ 2 * length os
 barred-length zero os = omega arith
-barred-length (suc n) os = omega (arith, counts-length (with_barriers os), counts-length os, barred-store_count 1 os, barred-flush_count 1 os, with-barrier_count os)
+barred-length (suc n) os =
+    omega (
+      arith,
+      counts-length (with_barriers os),
+      counts-length os,
+      barred-store_count 1 os,
+      barred-flush_count 1 os,
+      with-barrier_count os,
+    )
 
+-- the barriers of a dock make a list no shorter
 pub barred-longer : (dock : ℕ) (os : List Order) → length os ≤ length (barred dock os)
 barred-longer zero os = omega arith
-barred-longer (suc n) os = omega (arith, counts-length (with_barriers os), counts-length os, barred-store_count 1 os, barred-flush_count 1 os, with-barrier_count os)
+barred-longer (suc n) os =
+    omega (
+      arith,
+      counts-length (with_barriers os),
+      counts-length os,
+      barred-store_count 1 os,
+      barred-flush_count 1 os,
+      with-barrier_count os,
+    )
 
+-- no orders need no barriers
 pub barred-nil : (dock : ℕ) → barred dock [] ≡ []
 unfolding with_barriers
 barred-nil zero = refl

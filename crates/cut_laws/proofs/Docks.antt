@@ -1,16 +1,12 @@
--- The two docks: barriers make no difference to dock 0, and on orders with a barrier after each store dock 1 leaves the images that dock 0 does.
-use mathlib.Core.Path.{◌≡◌, refl, sym, ap, ◌∙◌}
-use mathlib.Core.Logic.{inl, inr, ◌↔◌}
-use mathlib.Core.Bool.{Bool, true, false, cond, ◌||◌}
-use mathlib.Core.List.{List, [], ◌∷◌, ◌++◌}
-use Prim.Native.Nat.{ℕ, zero, suc, ◌+◌}
-use native.Mathlib.Nat.{zero-add, suc-add}
-use lib.Dec.{eqb}
-use lib.ListN.{length, take}
+-- The two docks: barriers make no difference to dock 0, and on orders with a barrier after each store dock 1 leaves the images that dock 0
+-- does.
+use Rattle.std.proofs.Common.{◌≡◌, ℕ, zero, suc, ◌+◌, Bool, true, false, cond, ◌||◌, eqb, ◌↔◌, List, [], ◌∷◌, ◌++◌, length, take, sym, refl}
+use Rattle.std.proofs.Common.{ap, ◌∙◌, inl, inr, suc-add, zero-add}
 use lib.Seq.{take-nil}
 use Rattle.model.specs.Table.{Words, line}
 use Rattle.model.specs.Orders.{Store, Order, store, flush, barrier, apply, carry, orders, with_barriers, barred, without_barriers}
-use Rattle.model.specs.Cuts.{flushed, up_to_flush, since_flush, line_stores, later_stores, FirstPart, UpToBarrier, to_barrier, choice, AnyChoice, Image, CutImage}
+use Rattle.model.specs.Cuts.{flushed, up_to_flush, since_flush, line_stores, later_stores, FirstPart, UpToBarrier, to_barrier, choice}
+use Rattle.model.specs.Cuts.{AnyChoice, Image, CutImage}
 use Rattle.model.specs.Judge.{AllFlushed}
 use Rattle.cut_laws.specs.Unflushed.{stores_in, OneLine}
 use Rattle.cut_laws.proofs.Barriers.{without-carry, without-take, without-barred, barred-stores, barred-carry}
@@ -34,7 +30,8 @@ stores-without l (store s ∷ os) = rw (stores-without l os)
 stores-without l (flush k ∷ os) = stores-without l os
 stores-without l (barrier ∷ os) = stores-without l os
 
-without-cond : (b : Bool) (os rest r q : List Order) → without_barriers os ≡ r → without_barriers rest ≡ q → without_barriers (cond b os rest) ≡ cond b r q
+without-cond : (b : Bool) (os rest r q : List Order) → without_barriers os ≡ r → without_barriers rest ≡ q
+    → without_barriers (cond b os rest) ≡ cond b r q
 unfolding without_barriers
 without-cond true os rest r q e f = e
 without-cond false os rest r q e f = f
@@ -43,9 +40,11 @@ up_to-without : (l : ℕ) (os : List Order) → without_barriers (up_to_flush l 
 unfolding up_to_flush without_barriers
 up_to-without l [] = refl
 up_to-without l (store s ∷ os) =
-    rw (flushed-without l (store s ∷ os)) (without-cond (flushed l (store s ∷ os)) (store s ∷ up_to_flush l os) [] _ [] (ap (λ q. store s ∷ q) (up_to-without l os)) refl)
+    rw (flushed-without l (store s ∷ os))
+    (without-cond (flushed l (store s ∷ os)) (store s ∷ up_to_flush l os) [] _ [] (ap (λ q. store s ∷ q) (up_to-without l os)) refl)
 up_to-without l (flush k ∷ os) =
-    rw (flushed-without l (flush k ∷ os)) (without-cond (flushed l (flush k ∷ os)) (flush k ∷ up_to_flush l os) [] _ [] (ap (λ q. flush k ∷ q) (up_to-without l os)) refl)
+    rw (flushed-without l (flush k ∷ os))
+    (without-cond (flushed l (flush k ∷ os)) (flush k ∷ up_to_flush l os) [] _ [] (ap (λ q. flush k ∷ q) (up_to-without l os)) refl)
 up_to-without l (barrier ∷ os) = go (flushed l (barrier ∷ os)) refl (up_to-without l os)
   where
     go : (b : Bool) → flushed l (barrier ∷ os) ≡ b → without_barriers (up_to_flush l os) ≡ up_to_flush l (without_barriers os)
@@ -57,9 +56,11 @@ since-without : (l : ℕ) (os : List Order) → without_barriers (since_flush l 
 unfolding since_flush without_barriers
 since-without l [] = refl
 since-without l (store s ∷ os) =
-    rw (flushed-without l (store s ∷ os)) (without-cond (flushed l (store s ∷ os)) (since_flush l os) (store s ∷ os) _ _ (since-without l os) refl)
+    rw (flushed-without l (store s ∷ os))
+    (without-cond (flushed l (store s ∷ os)) (since_flush l os) (store s ∷ os) _ _ (since-without l os) refl)
 since-without l (flush k ∷ os) =
-    rw (flushed-without l (flush k ∷ os)) (without-cond (flushed l (flush k ∷ os)) (since_flush l os) (flush k ∷ os) _ _ (since-without l os) refl)
+    rw (flushed-without l (flush k ∷ os))
+    (without-cond (flushed l (flush k ∷ os)) (since_flush l os) (flush k ∷ os) _ _ (since-without l os) refl)
 since-without l (barrier ∷ os) = go (flushed l (barrier ∷ os)) refl (since-without l os)
   where
     go : (b : Bool) → flushed l (barrier ∷ os) ≡ b → without_barriers (since_flush l os) ≡ since_flush l (without_barriers os)
@@ -81,7 +82,8 @@ image-without t os m = (
   },
   λ i. record {
     long = i.long;
-    lines = λ l. let (part, (n, e), h) = i.lines l in (part, (n, rw (later-without l os) at e), λ w q. rw (carry-without l os t) at (h w q));
+    lines = λ l. let (part, (n, e), h) =
+        i.lines l in (part, (n, rw (later-without l os) at e), λ w q. rw (carry-without l os t) at (h w q));
   },
 )
 
@@ -130,7 +132,8 @@ choice-nil [] = refl
 choice-nil (b ∷ bs) = refl
 
 -- of one store, where b
-choice-one : (b : Bool) (s : Store) (marks : List Bool) → (n : ℕ) × ((r : List Store) → choice marks (cond b (s ∷ []) []) ≡ take n (cond b (s ∷ r) r))
+choice-one : (b : Bool) (s : Store) (marks : List Bool) → (n : ℕ)
+    × ((r : List Store) → choice marks (cond b (s ∷ []) []) ≡ take n (cond b (s ∷ r) r))
 unfolding choice
 choice-one b s [] = (0, λ r. refl)
 choice-one true s (true ∷ bs) = (1, λ r. ap (λ q. s ∷ q) (choice-nil bs))
@@ -143,7 +146,8 @@ take-past (s ∷ a) b n = rw suc-add (ap (λ q. s ∷ q) (take-past a b n))
 
 module _ (l : ℕ) where
   -- what is chosen up to the next barrier
-  chosen-first : (marks : List Bool) {os : List Order} → Spaced os → (n : ℕ) × (choice marks (line_stores l (to_barrier os)) ≡ take n (line_stores l os))
+  chosen-first : (marks : List Bool) {os : List Order} → Spaced os → (n : ℕ)
+      × (choice marks (line_stores l (to_barrier os)) ≡ take n (line_stores l os))
   unfolding line_stores to_barrier
   chosen-first marks none-left = (0, choice-nil marks)
   chosen-first marks (flushing a) = chosen-first marks a
@@ -155,9 +159,11 @@ module _ (l : ℕ) where
   pub choice-first : (os : List Order) (part : List Store) → Spaced os → AnyChoice l os part → FirstPart (line_stores l os) part
   choice-first os part a c =
       let u = chosen-first c.marks (spaced-rest c.before c.rest (rw c.parted at a)) in
-      let all : line_stores l os ≡ line_stores l c.before ++ line_stores l c.rest = ap (line_stores l) c.parted ∙ line-stores-append l c.before c.rest in (
+      let all : line_stores l os ≡ line_stores l c.before ++ line_stores l c.rest =
+      ap (line_stores l) c.parted ∙ line-stores-append l c.before c.rest in (
         length (line_stores l c.before) + u.0,
-        c.holds ∙ ap (λ q. line_stores l c.before ++ q) u.1 ∙ sym (take-past (line_stores l c.before) (line_stores l c.rest) u.0) ∙ ap (take (length (line_stores l c.before) + u.0)) (sym all),
+        c.holds ∙ ap (λ q. line_stores l c.before ++ q) u.1 ∙ sym (take-past (line_stores l c.before) (line_stores l c.rest) u.0)
+            ∙ ap (take (length (line_stores l c.before) + u.0)) (sym all),
       )
 
   -- ---- and a first part is a choice
@@ -168,7 +174,14 @@ module _ (l : ℕ) where
   flush-front k os part c = go c.up-to
     where
       go : UpToBarrier c.before → AnyChoice l (flush k ∷ os) part
-      go (inl (p, e)) = record { before = flush k ∷ c.before; rest = c.rest; marks = c.marks; parted = ap (λ q. flush k ∷ q) c.parted; up-to = inl (flush k ∷ p, ap (λ q. flush k ∷ q) e); holds = c.holds }
+      go (inl (p, e)) = record {
+        before = flush k ∷ c.before;
+        rest = c.rest;
+        marks = c.marks;
+        parted = ap (λ q. flush k ∷ q) c.parted;
+        up-to = inl (flush k ∷ p, ap (λ q. flush k ∷ q) e);
+        holds = c.holds;
+      }
       go (inr e) = record {
         before = [];
         rest = flush k ∷ c.rest;
@@ -185,7 +198,14 @@ module _ (l : ℕ) where
   barrier-front : (os : List Order) (part : List Store) → AnyChoice l os part → AnyChoice l (barrier ∷ os) part
   unfolding line_stores
   barrier-front os part c =
-      record { before = barrier ∷ c.before; rest = c.rest; marks = c.marks; parted = ap (λ q. barrier ∷ q) c.parted; up-to = inl (barrier-ends c.before c.up-to); holds = c.holds }
+      record {
+        before = barrier ∷ c.before;
+        rest = c.rest;
+        marks = c.marks;
+        parted = ap (λ q. barrier ∷ q) c.parted;
+        up-to = inl (barrier-ends c.before c.up-to);
+        holds = c.holds;
+      }
 
   store-front : (s : Store) (os : List Order) (part : List Store) → AnyChoice l os part
       → AnyChoice l (store s ∷ barrier ∷ os) (cond (eqb (line s.word) l) (s ∷ part) part)
@@ -201,7 +221,8 @@ module _ (l : ℕ) where
         holds = held (eqb (line s.word) l);
       }
     where
-      held : (b : Bool) → cond b (s ∷ part) part ≡ cond b (s ∷ line_stores l c.before) (line_stores l c.before) ++ choice c.marks (line_stores l (to_barrier c.rest))
+      held : (b : Bool) → cond b (s ∷ part) part ≡ cond b (s ∷ line_stores l c.before) (line_stores l c.before)
+          ++ choice c.marks (line_stores l (to_barrier c.rest))
       held true = ap (λ q. s ∷ q) c.holds
       held false = c.holds
 
@@ -212,7 +233,8 @@ module _ (l : ℕ) where
 
   last-taken : (s : Store) (n : ℕ) → AnyChoice l (store s ∷ []) (take (suc n) (line_stores l (store s ∷ [])))
   unfolding line_stores to_barrier choice
-  last-taken s n = record { before = []; rest = store s ∷ []; marks = true ∷ []; parted = refl; up-to = inr refl; holds = go (eqb (line s.word) l) }
+  last-taken s n = record
+      { before = []; rest = store s ∷ []; marks = true ∷ []; parted = refl; up-to = inr refl; holds = go (eqb (line s.word) l) }
     where
       go : (b : Bool) → take (suc n) (cond b (s ∷ []) []) ≡ choice (true ∷ []) (cond b (s ∷ []) [])
       go true = ap (λ q. s ∷ q) (take-nil {A = Store} n)
@@ -251,14 +273,16 @@ same-images n t os m a = (
 )
 
 -- So do they of the list of either dock, cut anywhere: the images are those of the orders without barriers.
-pub barred-images : (dock c : ℕ) (t : Words) (os : List Order) (m : Words) → CutImage dock c t (barred dock os) m ↔ CutImage 0 c t (barred dock os) m
+pub barred-images : (dock c : ℕ) (t : Words) (os : List Order) (m : Words)
+    → CutImage dock c t (barred dock os) m ↔ CutImage 0 c t (barred dock os) m
 barred-images zero c t os m = (λ i. i, λ i. i)
 barred-images (suc n) c t os m = same-images n t (take c (with_barriers os)) m (spaced-take c os)
 
 pub dock-images : (dock c : ℕ) (t : Words) (os : List Order) (m : Words)
     → CutImage dock c t (barred dock os) m ↔ CutImage 0 (length (without_barriers (take c (barred dock os)))) t (without_barriers os) m
 dock-images dock c t os m =
-    let e : without_barriers (take c (barred dock os)) ≡ take (length (without_barriers (take c (barred dock os)))) (without_barriers os) = without-take c (barred dock os) ∙ rw (without-barred dock os) in
+    let e : without_barriers (take c (barred dock os)) ≡ take (length (without_barriers (take c (barred dock os)))) (without_barriers os) =
+    without-take c (barred dock os) ∙ rw (without-barred dock os) in
     let u = barred-images dock c t os m in
     let v = image-without t (take c (barred dock os)) m in
     (λ i. rw e at (v.0 (u.0 i)), λ i. u.1 (v.1 (rw (← e) at i)))
@@ -273,15 +297,20 @@ module _ (dock : ℕ) (ss : List Store) where
   -- no two lines ever hold unflushed stores
   pub list-one-line : OneLine (barred dock (orders ss))
   list-one-line c k l n =
-      let e : without_barriers (take c (barred dock (orders ss))) ≡ take (length (without_barriers (take c (barred dock (orders ss))))) (orders ss) = without-take c (barred dock (orders ss)) ∙ rw list-without in
-      rw (← (later-without k (take c (barred dock (orders ss)))), ← (later-without l (take c (barred dock (orders ss)))), e) (orders-one-line ss (length (without_barriers (take c (barred dock (orders ss))))) k l n)
+      let e : without_barriers (take c (barred dock (orders ss)))
+      ≡ take (length (without_barriers (take c (barred dock (orders ss))))) (orders ss) =
+      without-take c (barred dock (orders ss)) ∙ rw list-without in
+      rw (← (later-without k (take c (barred dock (orders ss)))), ← (later-without l (take c (barred dock (orders ss)))), e)
+      (orders-one-line ss (length (without_barriers (take c (barred dock (orders ss))))) k l n)
 
   -- no store is left unflushed
   pub list-flushed : AllFlushed (barred dock (orders ss))
   list-flushed l = sym (later-without l (barred dock (orders ss))) ∙ ap (later_stores l) list-without ∙ orders-flushed ss l
 
+  -- the stores in the order list of ss are ss
   pub list-stores : stores_in (barred dock (orders ss)) ≡ ss
   list-stores = barred-stores dock (orders ss) ∙ orders-stores ss
 
+  -- carrying out the order list of ss leaves the table that applying ss leaves
   pub list-apply : (t : Words) → carry (barred dock (orders ss)) t ≡ apply ss t
   list-apply t = barred-carry dock (orders ss) t ∙ orders-apply ss t

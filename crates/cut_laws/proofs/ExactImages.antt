@@ -1,14 +1,11 @@
 -- The images of a cut, on either dock, are exactly what the first orders leave, from the last flush up to the cut.
-use mathlib.Core.Path.{◌≡◌, refl, sym, ap, ◌∙◌}
-use mathlib.Core.Logic.{◌≢◌, ◌⊎◌, inl, inr, ◌↔◌}
-use mathlib.Core.List.{List, [], ◌∷◌, ◌++◌}
-use Prim.Native.Nat.{ℕ, zero, suc, ◌≤◌, ◌<◌}
-use native.Mathlib.Omega.{arith}
+use Rattle.std.proofs.Common.{◌≡◌, ℕ, zero, suc, ◌<◌, ◌≤◌, ◌≢◌, ◌⊎◌, ◌↔◌, List, [], ◌∷◌, ◌++◌, length, get_or, take, drop, sym, refl, ap}
+use Rattle.std.proofs.Common.{◌∙◌, inl, inr, arith, length-append, drop_of_length-le, length-take, take_all, take-suc}
 use native.Mathlib.Decide.{ℕ_discrete, dec_lt}
-use lib.ListN.{length, get_or, take, drop, length-append, length-take, drop_of_length-le}
-use lib.Seq.{take_all, take-suc, split_at, drop-append-le}
+use lib.Seq.{split_at, drop-append-le}
 use Rattle.model.specs.Table.{Words, line}
-use Rattle.model.specs.Orders.{Store, Order, store, flush, barrier, carry, orders_after, orders, barred, without_barriers, store_count, flush_count}
+use Rattle.model.specs.Orders.{Store, Order, store, flush, barrier, carry, orders_after, orders, barred, without_barriers, store_count}
+use Rattle.model.specs.Orders.{flush_count}
 use Rattle.model.specs.Cuts.{CutImage, since_flush, line_stores, later_stores}
 use Rattle.model.specs.Judge.{AllFlushed}
 use Rattle.cut_laws.proofs.Applying.{flush_count-append}
@@ -23,7 +20,8 @@ module _ (l : ℕ) (s : Store) (ss : List Store) (b : List Order) (k : ℕ) wher
   abbrev ToFlush : ℕ → Type 0
   ToFlush d = (a : List Order) → orders_after d ss ≡ a ++ (flush k ∷ b) → a ++ (flush k ∷ []) ≡ orders_after d (take (store_count a) ss)
 
-  to-flush-same : line s.word ≡ l → ToFlush l → (a : List Order) → store s ∷ orders_after l ss ≡ a ++ (flush k ∷ b) → a ++ (flush k ∷ []) ≡ orders_after l (take (store_count a) (s ∷ ss))
+  to-flush-same : line s.word ≡ l → ToFlush l → (a : List Order) → store s ∷ orders_after l ss ≡ a ++ (flush k ∷ b) → a ++ (flush k ∷ [])
+      ≡ orders_after l (take (store_count a) (s ∷ ss))
   unfolding store_count
   to-flush-same n ih [] e = absurd (let z : ◌≡◌ {A = ℕ} 0 1 = cc in omega arith)
   to-flush-same n ih (barrier ∷ a) e = absurd (let z : ◌≡◌ {A = ℕ} 0 1 = cc in omega arith)
@@ -33,7 +31,8 @@ module _ (l : ℕ) (s : Store) (ss : List Store) (b : List Order) (k : ℕ) wher
       let q : orders_after l ss ≡ a ++ (flush k ∷ b) = cc in
       rw (after-same l s (take (store_count a) ss) n, p, ih a q)
 
-  to-flush-other : line s.word ≢ l → ToFlush (line s.word) → (a : List Order) → flush l ∷ store s ∷ orders_after (line s.word) ss ≡ a ++ (flush k ∷ b) → a ++ (flush k ∷ []) ≡ orders_after l (take (store_count a) (s ∷ ss))
+  to-flush-other : line s.word ≢ l → ToFlush (line s.word) → (a : List Order) → flush l ∷ store s ∷ orders_after (line s.word) ss ≡ a
+      ++ (flush k ∷ b) → a ++ (flush k ∷ []) ≡ orders_after l (take (store_count a) (s ∷ ss))
   unfolding store_count orders_after
   to-flush-other n ih [] e = let z : k ≡ l = cc in rw z
   to-flush-other n ih (store x ∷ a) e = absurd (let z : ◌≡◌ {A = ℕ} 0 1 = cc in omega arith)
@@ -47,7 +46,8 @@ module _ (l : ℕ) (s : Store) (ss : List Store) (b : List Order) (k : ℕ) wher
       let q : orders_after (line s.word) ss ≡ a ++ (flush k ∷ b) = cc in
       rw (after-other l s (take (store_count a) ss) n, p, r, ih a q)
 
-after-to-flush : (l : ℕ) (ss : List Store) (b : List Order) (k : ℕ) (a : List Order) → orders_after l ss ≡ a ++ (flush k ∷ b) → a ++ (flush k ∷ []) ≡ orders_after l (take (store_count a) ss)
+after-to-flush : (l : ℕ) (ss : List Store) (b : List Order) (k : ℕ) (a : List Order) → orders_after l ss ≡ a ++ (flush k ∷ b) → a
+    ++ (flush k ∷ []) ≡ orders_after l (take (store_count a) ss)
 unfolding orders_after store_count
 after-to-flush l [] b k [] e = let z : l ≡ k = cc in rw z
 after-to-flush l [] b k (o ∷ a) e = absurd (omega (arith, simp length-append at (ap length e)))
@@ -58,7 +58,8 @@ after-to-flush l (s ∷ ss) b k a e = go (ℕ_discrete (line s.word) l) (λ d. a
     go (no n) ih = to-flush-other l s ss b k n (ih (line s.word)) a (sym (after-other l s ss n) ∙ e)
 
 -- The orders up to a flush are those of the stores before it.
-pub orders-to-flush : (ss : List Store) (a b : List Order) (k : ℕ) → orders ss ≡ a ++ (flush k ∷ b) → a ++ (flush k ∷ []) ≡ orders (take (store_count a) ss)
+pub orders-to-flush :
+    (ss : List Store) (a b : List Order) (k : ℕ) → orders ss ≡ a ++ (flush k ∷ b) → a ++ (flush k ∷ []) ≡ orders (take (store_count a) ss)
 unfolding orders store_count
 orders-to-flush [] a b k e = absurd (omega (arith, simp length-append at (ap length e)))
 orders-to-flush (s ∷ ss) [] b k e = absurd (let z : ◌≡◌ {A = ℕ} 0 1 = cc in omega arith)
@@ -77,7 +78,8 @@ module _ (dock : ℕ) (ss : List Store) (t : Words) where
 
   -- what the first j orders leave, where no flush lies between j and c
   abbrev pub SinceFlush : ℕ → Words → Type 0
-  SinceFlush c m = (j : ℕ) × (j ≤ c) × (flush_count (drop j (take c (barred dock (orders ss)))) ≡ 0) × (m ≡ carry (take j (barred dock (orders ss))) t)
+  SinceFlush c m = (j : ℕ) × (j ≤ c) × (flush_count (drop j (take c (barred dock (orders ss)))) ≡ 0)
+      × (m ≡ carry (take j (barred dock (orders ss))) t)
 
   at-cut : (c : ℕ) (m : Words) → m ≡ carry (take c list) t → SinceFlush c m
   unfolding flush_count
@@ -88,18 +90,31 @@ module _ (dock : ℕ) (ss : List Store) (t : Words) where
   unfolding without_barriers
   to-flush c k h e l =
       let a = without_barriers (take c list) in
-      let first : without_barriers (take (suc c) list) ≡ a ++ (flush k ∷ []) = rw (take-suc list c (flush 0) h, e) (without-append (take c list) (flush k ∷ [])) in
-      let all : orders ss ≡ a ++ (flush k ∷ without_barriers (drop (suc c) list)) = sym (list-without dock ss) ∙ ap without_barriers (split_at list c (flush 0) h) ∙ rw e (without-append (take c list) (flush k ∷ drop (suc c) list)) in
-      sym (later-without l (take (suc c) list)) ∙ ap (later_stores l) (first ∙ orders-to-flush ss a (without_barriers (drop (suc c) list)) k all) ∙ orders-flushed (take (store_count a) ss) l
+      let first : without_barriers (take (suc c) list) ≡ a ++ (flush k ∷ []) =
+      rw (take-suc list c (flush 0) h, e) (without-append (take c list) (flush k ∷ [])) in
+      let all : orders ss ≡ a ++ (flush k ∷ without_barriers (drop (suc c) list)) =
+      sym (list-without dock ss) ∙ ap without_barriers (split_at list c (flush 0) h)
+      ∙ rw e (without-append (take c list) (flush k ∷ drop (suc c) list)) in
+      sym (later-without l (take (suc c) list))
+      ∙ ap (later_stores l) (first ∙ orders-to-flush ss a (without_barriers (drop (suc c) list)) k all)
+      ∙ orders-flushed (take (store_count a) ss) l
 
   -- an order that leaves no new image
-  none-new : (c : ℕ) (o : Order) (m : Words) → flush_count (o ∷ []) ≡ 0 → take (suc c) list ≡ take c list ++ (o ∷ []) → c < length list → SinceFlush c m → SinceFlush (suc c) m
-  none-new c o m z e h (j, b, f, q) = (j, omega arith, rw (e, drop-append-le j (take c list) (o ∷ []) (simp length-take (omega arith)), flush_count-append) (omega arith), q)
+  none-new : (c : ℕ) (o : Order) (m : Words) → flush_count (o ∷ []) ≡ 0 → take (suc c) list ≡ take c list ++ (o ∷ []) → c < length list
+      → SinceFlush c m → SinceFlush (suc c) m
+  none-new c o m z e h (j, b, f, q) = (
+    j,
+    omega arith,
+    rw (e, drop-append-le j (take c list) (o ∷ []) (simp length-take (omega arith)), flush_count-append) (omega arith),
+    q,
+  )
 
-  since-more : (c : ℕ) → c < length list → ((m : Words) → CutImage 0 c t list m → SinceFlush c m) → (o : Order) → get_or list c (flush 0) ≡ o → (m : Words) → CutImage 0 (suc c) t list m → SinceFlush (suc c) m
+  since-more : (c : ℕ) → c < length list → ((m : Words) → CutImage 0 c t list m → SinceFlush c m) → (o : Order) → get_or list c (flush 0)
+      ≡ o → (m : Words) → CutImage 0 (suc c) t list m → SinceFlush (suc c) m
   unfolding flush_count
   since-more c h ih (flush k) e m i = at-cut (suc c) m (flushed-image (take (suc c) list) t m (to-flush c k h e) i)
-  since-more c h ih barrier e m i = let n = rw e at (take-suc list c (flush 0) h) in none-new c barrier m refl n h (ih m (cut-barrier list t c m n i))
+  since-more c h ih barrier e m i = let n =
+      rw e at (take-suc list c (flush 0) h) in none-new c barrier m refl n h (ih m (cut-barrier list t c m n i))
   since-more c h ih (store s) e m i = go (cut-store list t c s m (list-one-line dock ss) snoc i)
     where
       snoc : take (suc c) list ≡ take c list ++ (store s ∷ [])
@@ -116,10 +131,13 @@ module _ (dock : ℕ) (ss : List Store) (t : Words) where
     where
       go : Dec (c < length list) → ((m : Words) → CutImage 0 c t list m → SinceFlush c m) → SinceFlush (suc c) m
       go (yes h) ih = since-more c h ih (get_or list c (flush 0)) refl m i
-      go (no k) ih = let (j, b, f, q) = ih m (cut-past list t c m (omega arith) i) in (j, omega arith, rw (take_all (suc c) list (omega arith)) (rw (take_all c list (omega arith)) at f), q)
+      go (no k) ih = let (j, b, f, q) =
+          ih m (cut-past list t c m (omega arith) i) in
+          (j, omega arith, rw (take_all (suc c) list (omega arith)) (rw (take_all c list (omega arith)) at f), q)
 
 -- An image of a cut after c orders is what the first j of them leave, no flush between j and c; and each of these is one.
-pub cut-images : (dock : ℕ) (ss : List Store) (t : Words) (c : ℕ) (m : Words) → CutImage dock c t (barred dock (orders ss)) m ↔ SinceFlush dock ss t c m
+pub cut-images : (dock : ℕ) (ss : List Store) (t : Words) (c : ℕ) (m : Words)
+    → CutImage dock c t (barred dock (orders ss)) m ↔ SinceFlush dock ss t c m
 cut-images dock ss t c m = (
   λ i. image-since-flush dock ss t c m ((barred-images dock c t (orders ss) m).0 i),
   λ u. let (j, h, f, e) = u in rw e (prefix-is-image dock ss t j c h f),

@@ -1,20 +1,17 @@
 -- What a cut may leave on dock 0, for any orders of which no two lines ever hold unflushed stores: what some first part of them leaves.
-use mathlib.Core.Path.{◌≡◌, refl, sym, ap, ◌∙◌}
-use mathlib.Core.Logic.{◌≢◌, ◌⊎◌, inl, inr}
-use mathlib.Core.Bool.{Bool, true, false, cond}
-use mathlib.Core.List.{List, [], ◌∷◌, ◌++◌, append-nil}
-use Prim.Native.Nat.{ℕ, zero, suc, ◌≤◌, ◌<◌}
-use native.Mathlib.Omega.{arith}
+use Rattle.std.proofs.Common.{◌≡◌, ℕ, zero, suc, ◌<◌, ◌≤◌, Bool, true, false, cond, ◌≢◌, ◌⊎◌, List, [], ◌∷◌, ◌++◌, length, get_or, take}
+use Rattle.std.proofs.Common.{drop, sym, refl, ap, ◌∙◌, inl, inr, append-nil, arith, length-append, take-append-drop, take_all, take-suc}
+use Rattle.std.proofs.Common.{take-take, ext_get_or}
 use native.Mathlib.Decide.{ℕ_discrete, dec_le, dec_lt}
-use lib.ListN.{length, get_or, take, drop, length-append, take-append-drop}
-use lib.Seq.{take-nil, ext_get_or, take_all, take-suc, take-take, take-length, take-append-le, take-append_seam}
+use lib.Seq.{take-nil, take-length, take-append-le, take-append_seam}
 use Rattle.model.specs.Table.{Words, line}
 use Rattle.model.specs.Orders.{Store, Order, store, flush, barrier, carry, flush_count}
 use Rattle.model.specs.Cuts.{flushed, up_to_flush, since_flush, line_stores, later_stores, Holds, Image, CutImage}
 use Rattle.model.specs.Judge.{AllFlushed}
 use Rattle.cut_laws.specs.Unflushed.{OneLine}
 use Rattle.cut_laws.proofs.Applying.{length-carry, carry-append, apply-nil}
-use Rattle.cut_laws.proofs.LastFlush.{no-flush, up_to_flush-after, up_to_flush-before, later_stores-after, later_stores-before, flush-alone, same-end, other-end, line-current}
+use Rattle.cut_laws.proofs.LastFlush.{no-flush, up_to_flush-after, up_to_flush-before, later_stores-after, later_stores-before, flush-alone}
+use Rattle.cut_laws.proofs.LastFlush.{same-end, other-end, line-current}
 
 -- ---- each line by how many of its later stores it has: only these two read what may arrive
 
@@ -24,7 +21,8 @@ HoldsFirst t os m l n = Holds t os m l (take n (later_stores l os))
 first-parts : {t : Words} {os : List Order} {m : Words} → Image 0 t os m → (l : ℕ) → (n : ℕ) × HoldsFirst t os m l n
 first-parts i l = let (part, (n, e), h) = i.lines l in (n, λ w q. rw (← e) (h w q))
 
-by-first-parts : (t : Words) (os : List Order) (m : Words) → length m ≡ length t → ((l : ℕ) → (n : ℕ) × HoldsFirst t os m l n) → Image 0 t os m
+by-first-parts : (t : Words) (os : List Order) (m : Words) → length m ≡ length t
+    → ((l : ℕ) → (n : ℕ) × HoldsFirst t os m l n) → Image 0 t os m
 by-first-parts t os m e f = record { long = e; lines = λ l. (take (f l).0 (later_stores l os), ((f l).0, refl), (f l).1) }
 
 -- ---- all the later stores
@@ -33,7 +31,14 @@ by-first-parts t os m e f = record { long = e; lines = λ l. (take (f l).0 (late
 pub first-part-image : (a b : List Order) (t : Words) → flush_count b ≡ 0 → Image 0 t (a ++ b) (carry a t)
 first-part-image a b t e =
     by-first-parts t (a ++ b) (carry a t) (length-carry a t)
-    (λ l. (length (later_stores l a), λ w q. rw (up_to_flush-before l b (no-flush l b e) a, later_stores-before l b (no-flush l b e) a, take-append_seam (later_stores l a) (later_stores l b)) (rw q at (sym (line-current a t w)))))
+    (λ l. (
+      length (later_stores l a),
+      λ w q. rw (
+        up_to_flush-before l b (no-flush l b e) a,
+        later_stores-before l b (no-flush l b e) a,
+        take-append_seam (later_stores l a) (later_stores l b),
+      ) (rw q at (sym (line-current a t w))),
+    ))
 
 -- what the orders leave is an image
 pub carry-image : (os : List Order) (t : Words) → Image 0 t os (carry os t)
@@ -41,9 +46,11 @@ unfolding flush_count
 carry-image os t = rw append-nil at (first-part-image os [] t refl)
 
 -- where each line has all its later stores, the image is what the orders leave
-image-full : (os : List Order) (t m : Words) (i : Image 0 t os m) → ((l : ℕ) → take (first-parts i l).0 (later_stores l os) ≡ later_stores l os) → m ≡ carry os t
+image-full : (os : List Order) (t m : Words) (i : Image 0 t os m)
+    → ((l : ℕ) → take (first-parts i l).0 (later_stores l os) ≡ later_stores l os) → m ≡ carry os t
 image-full os t m i a =
-    ext_get_or 0 m (carry os t) (i.long ∙ sym (length-carry os t)) (λ w h. rw (a (line w)) at ((first-parts i (line w)).1 w refl) ∙ line-current os t w)
+    ext_get_or 0 m (carry os t) (i.long ∙ sym (length-carry os t))
+    (λ w h. rw (a (line w)) at ((first-parts i (line w)).1 w refl) ∙ line-current os t w)
 
 -- Where no store is unflushed there is one image: what the orders leave.
 pub flushed-image : (os : List Order) (t m : Words) → AllFlushed os → Image 0 t os m → m ≡ carry os t
@@ -62,20 +69,37 @@ flush-fewer os k t m i = by-first-parts t os m i.long (λ l. go l (flushed l (fl
     go : (l : ℕ) (b : Bool) → flushed l (flush k ∷ []) ≡ b → (n : ℕ) × HoldsFirst t os m l n
     go l true e = (
       length (later_stores l os),
-      λ w h. rw (up_to_flush-after l (flush k ∷ []) e os, later_stores-after l (flush k ∷ []) e os, flush-alone l k, take-nil, apply-nil, carry-append, carry-one-flush) at ((first-parts i l).1 w h)
+      λ w h. rw (
+        up_to_flush-after l (flush k ∷ []) e os,
+        later_stores-after l (flush k ∷ []) e os,
+        flush-alone l k,
+        take-nil,
+        apply-nil,
+        carry-append,
+        carry-one-flush,
+      ) at ((first-parts i l).1 w h)
           ∙ rw take-length (rw h at (sym (line-current os t w))),
     )
-    go l false e =
-        ((first-parts i l).0, λ w h. rw (up_to_flush-before l (flush k ∷ []) e os, later_stores-before l (flush k ∷ []) e os, flush-alone l k, append-nil) at ((first-parts i l).1 w h))
+    go l false e = (
+      (first-parts i l).0,
+      λ w h. rw (up_to_flush-before l (flush k ∷ []) e os, later_stores-before l (flush k ∷ []) e os, flush-alone l k, append-nil) at
+          ((first-parts i l).1 w h),
+    )
 
 -- nor does a barrier
 barrier-fewer : (os : List Order) (t m : Words) → Image 0 t (os ++ (barrier ∷ [])) m → Image 0 t os m
 unfolding since_flush line_stores flushed
 barrier-fewer os t m i =
-    by-first-parts t os m i.long (λ l. ((first-parts i l).0, λ w h. rw (up_to_flush-before l (barrier ∷ []) refl os, later_stores-before l (barrier ∷ []) refl os, append-nil) at ((first-parts i l).1 w h)))
+    by-first-parts t os m i.long
+    (λ l. (
+      (first-parts i l).0,
+      λ w h. rw (up_to_flush-before l (barrier ∷ []) refl os, later_stores-before l (barrier ∷ []) refl os, append-nil) at
+          ((first-parts i l).1 w h),
+    ))
 
 -- a store to the one line that may hold unflushed ones leaves one image more
-store-more : (os : List Order) (s : Store) (t m : Words) → ((l : ℕ) → l ≢ line s.word → later_stores l os ≡ []) → Image 0 t (os ++ (store s ∷ [])) m → Image 0 t os m ⊎ (m ≡ carry (os ++ (store s ∷ [])) t)
+store-more : (os : List Order) (s : Store) (t m : Words) → ((l : ℕ) → l ≢ line s.word → later_stores l os ≡ [])
+    → Image 0 t (os ++ (store s ∷ [])) m → Image 0 t os m ⊎ (m ≡ carry (os ++ (store s ∷ [])) t)
 unfolding flushed
 store-more os s t m a i = go (dec_le n (length (later_stores d os)))
   where
@@ -87,11 +111,16 @@ store-more os s t m a i = go (dec_le n (length (later_stores d os)))
 
     holds : n ≤ length (later_stores d os) → (l : ℕ) → Dec (l ≡ d) → (n : ℕ) × HoldsFirst t os m l n
     holds h l (yes q) =
-        rw q (n, λ w e. rw (up_to_flush-before d (store s ∷ []) refl os, same-end os s, take-append-le n (later_stores d os) (s ∷ []) h) at ((first-parts i d).1 w e))
+        rw q (
+          n,
+          λ w e. rw (up_to_flush-before d (store s ∷ []) refl os, same-end os s, take-append-le n (later_stores d os) (s ∷ []) h) at
+              ((first-parts i d).1 w e),
+        )
     holds h l (no k) =
         ((first-parts i l).0, λ w e. rw (up_to_flush-before l (store s ∷ []) refl os, other-end os s l k) at ((first-parts i l).1 w e))
 
-    full : length (later_stores d os) < n → (l : ℕ) → Dec (l ≡ d) → take (first-parts i l).0 (later_stores l (os ++ (store s ∷ []))) ≡ later_stores l (os ++ (store s ∷ []))
+    full : length (later_stores d os) < n → (l : ℕ) → Dec (l ≡ d) → take (first-parts i l).0 (later_stores l (os ++ (store s ∷ [])))
+        ≡ later_stores l (os ++ (store s ∷ []))
     full h l (yes q) = rw (q, same-end os s) (take_all n (later_stores d os ++ (s ∷ [])) (simp length-append (omega arith)))
     full h l (no k) = rw (other-end os s l k, a l k) (take-nil (first-parts i l).0)
 
@@ -111,7 +140,8 @@ module _ (os : List Order) (t : Words) (c : ℕ) where
   pub cut-barrier : (m : Words) → take (suc c) os ≡ take c os ++ (barrier ∷ []) → CutImage 0 (suc c) t os m → CutImage 0 c t os m
   cut-barrier m e i = barrier-fewer (take c os) t m (rw e at i)
 
-  pub cut-store : (s : Store) (m : Words) → OneLine os → take (suc c) os ≡ take c os ++ (store s ∷ []) → CutImage 0 (suc c) t os m → CutImage 0 c t os m ⊎ (m ≡ carry (take (suc c) os) t)
+  pub cut-store : (s : Store) (m : Words) → OneLine os → take (suc c) os ≡ take c os ++ (store s ∷ []) → CutImage 0 (suc c) t os m
+      → CutImage 0 c t os m ⊎ (m ≡ carry (take (suc c) os) t)
   cut-store s m one e i = rw e (store-more (take c os) s t m clean (rw e at i))
     where
       clean : (l : ℕ) → l ≢ line s.word → later_stores l (take c os) ≡ []
@@ -129,7 +159,8 @@ module _ (os : List Order) (t : Words) (one : OneLine os) where
   abbrev Prefix : ℕ → Words → Type 0
   Prefix c m = (j : ℕ) × (j ≤ c) × (m ≡ carry (take j os) t)
 
-  one-more : (c : ℕ) → ((m : Words) → CutImage 0 c t os m → Prefix c m) → (o : Order) → take (suc c) os ≡ take c os ++ (o ∷ []) → (m : Words) → CutImage 0 (suc c) t os m → Prefix (suc c) m
+  one-more : (c : ℕ) → ((m : Words) → CutImage 0 c t os m → Prefix c m) → (o : Order) → take (suc c) os ≡ take c os ++ (o ∷ [])
+      → (m : Words) → CutImage 0 (suc c) t os m → Prefix (suc c) m
   one-more c ih (flush k) e m i = let (j, h, q) = ih m (cut-flush os t c k m e i) in (j, omega arith, q)
   one-more c ih barrier e m i = let (j, h, q) = ih m (cut-barrier os t c m e i) in (j, omega arith, q)
   one-more c ih (store s) e m i = go (cut-store os t c s m one e i)
@@ -151,5 +182,7 @@ module _ (os : List Order) (t : Words) (one : OneLine os) where
 -- ---- the other way
 
 -- What the first j orders leave is an image of the cut after c, if no flush lies between.
-pub prefix-cut : (os : List Order) (t : Words) (j c : ℕ) → j ≤ c → flush_count (drop j (take c os)) ≡ 0 → CutImage 0 c t os (carry (take j os) t)
-prefix-cut os t j c h e = rw (take-append-drop j (take c os), take-take j c os h) at (first-part-image (take j (take c os)) (drop j (take c os)) t e)
+pub prefix-cut : (os : List Order) (t : Words) (j c : ℕ) → j ≤ c → flush_count (drop j (take c os)) ≡ 0
+    → CutImage 0 c t os (carry (take j os) t)
+prefix-cut os t j c h e =
+    rw (take-append-drop j (take c os), take-take j c os h) at (first-part-image (take j (take c os)) (drop j (take c os)) t e)

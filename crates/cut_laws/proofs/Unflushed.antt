@@ -1,12 +1,6 @@
 -- Under the flush rule no two lines ever hold unflushed stores, and none is left unflushed at the end.
-use mathlib.Core.Path.{◌≡◌, refl, sym, ◌∙◌}
-use mathlib.Core.Logic.{◌≢◌, ◌⊎◌, inl, inr}
-use mathlib.Core.Bool.{true}
-use mathlib.Core.List.{List, [], ◌∷◌}
-use Prim.Native.Nat.{ℕ, zero, suc}
+use Rattle.std.proofs.Common.{◌≡◌, ℕ, zero, suc, true, ◌≢◌, ◌⊎◌, List, [], ◌∷◌, take, sym, refl, ◌∙◌, inl, inr, eq-eqb}
 use native.Mathlib.Decide.{ℕ_discrete}
-use borrow.Author.Tests.{eq-eqb}
-use lib.ListN.{take}
 use lib.Seq.{take-nil}
 use Rattle.model.specs.Table.{line}
 use Rattle.model.specs.Orders.{Store, Order, store, flush, orders_after, orders}
@@ -35,7 +29,8 @@ after-flushed (s ∷ ss) d l = go (ℕ_discrete (line s.word) d) (after-flushed 
     go : Dec (line s.word ≡ d) → ((d : ℕ) → AllFlushed (orders_after d ss)) → later_stores l (orders_after d (s ∷ ss)) ≡ []
     go (yes e) ih = rw (after-same d s ss e) (flushed-front s (orders_after d ss) l (rw e (after-flushes ss d)) ∙ ih d l)
     go (no k) ih =
-        rw (after-other d s ss k, flush-front l d) (flushed-front s (orders_after (line s.word) ss) l (after-flushes ss (line s.word)) ∙ ih (line s.word) l)
+        rw (after-other d s ss k, flush-front l d)
+        (flushed-front s (orders_after (line s.word) ss) l (after-flushes ss (line s.word)) ∙ ih (line s.word) l)
 
 -- No store is left unflushed.
 pub orders-flushed : (ss : List Store) → AllFlushed (orders ss)
@@ -60,7 +55,8 @@ fits-one : (d : ℕ) (os : List Order) → Fits d os → OneUnflushed os
 fits-one d os (inl a) k l n = a.1 k l n
 fits-one d os (inr only) k l n = elim (ℕ_discrete d k) [ yes e ↦ inr (only l (λ q. n (sym e ∙ q))) | no j ↦ inl (only k j) ]
 
-fits-start : (s : Store) (ss : List Store) → ((d c : ℕ) → Fits d (take c (orders_after d ss))) → (c : ℕ) → OneUnflushed (take c (store s ∷ orders_after (line s.word) ss))
+fits-start : (s : Store) (ss : List Store) → ((d c : ℕ) → Fits d (take c (orders_after d ss))) → (c : ℕ)
+    → OneUnflushed (take c (store s ∷ orders_after (line s.word) ss))
 unfolding since_flush line_stores
 fits-start s ss ih zero = λ k l n. inl refl
 fits-start s ss ih (suc c) =
@@ -78,7 +74,8 @@ fits-after (s ∷ ss) d (suc c) = go (ℕ_discrete (line s.word) d) (fits-after 
   where
     go : Dec (line s.word ≡ d) → ((d c : ℕ) → Fits d (take c (orders_after d ss))) → Fits d (take (suc c) (orders_after d (s ∷ ss)))
     go (yes e) ih = rw (after-same d s ss e) (fits-store s (take c (orders_after d ss)) d e (ih d c))
-    go (no k) ih = rw (after-other d s ss k) (inl (rw (eq-eqb d d refl) refl, fits-flush d (take c (store s ∷ orders_after (line s.word) ss)) (fits-start s ss ih c)))
+    go (no k) ih = rw (after-other d s ss k)
+        (inl (rw (eq-eqb d d refl) refl, fits-flush d (take c (store s ∷ orders_after (line s.word) ss)) (fits-start s ss ih c)))
 
 -- No two lines ever hold unflushed stores.
 pub orders-one-line : (ss : List Store) → OneLine (orders ss)

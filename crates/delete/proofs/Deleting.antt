@@ -1,17 +1,13 @@
 -- A deletion after the shared tests: refused with 9, or accepted; and its stores after the repair.
-use mathlib.Core.Path.{◌≡◌, refl, ap, sym, ◌∙◌}
-use mathlib.Core.Bool.{Bool, true, false}
-use mathlib.Core.List.{List, ◌++◌}
-use Prim.Native.Nat.{ℕ}
-use native.Mathlib.Omega.{arith}
-use lib.ListN.{length}
+use Rattle.std.proofs.Common.{◌≡◌, ℕ, Bool, true, false, List, ◌++◌, length, sym, refl, ap, ◌∙◌, arith}
 use Rattle.std.specs.Prelude.{Ok}
 use Rattle.model.specs.Table.{Words, at, root_word, no_collection, has_node}
 use Rattle.model.specs.Slots.{view_from, view}
 use Rattle.model.specs.Reached.{mapping, map_of}
 use Rattle.model.specs.SoundTest.{sound_view, settled}
 use Rattle.model.specs.Orders.{Store, apply}
-use Rattle.model.specs.Writes.{shift_out_at, standing_in, standing, repair_stores, repaired, child_before, frees_leaf, free_stores, delete_settled, delete_stores, deletion, stores_of}
+use Rattle.model.specs.Writes.{shift_out_at, standing_in, standing, repair_stores, repaired, child_before, frees_leaf, free_stores}
+use Rattle.model.specs.Writes.{delete_settled, delete_stores, deletion, stores_of}
 use Rattle.model.specs.Refusals.{has_key, refusal}
 use Rattle.two_laws.proofs.DeleteTwo.{stores-begin, stores-freeing, stores-plain}
 use Rattle.two_laws.proofs.JudgedTwo.{map-later}
@@ -31,7 +27,8 @@ use Rattle.write.proofs.Rooted.{root-sound, root-stands, root-key}
 -- ---- 9
 
 -- the root that was read, and whether its tree has the key
-module _ (c k words dock : ℕ) (t : Words) (s : Sound) (j : judged (no_collection c t) words dock t ≡ Ok s) {r : ℕ} (q : r ≡ at t (root_word c)) where
+module _ (c k words dock : ℕ) (t : Words) (s : Sound) (j : judged (no_collection c t) words dock t ≡ Ok s) {r : ℕ}
+    (q : r ≡ at t (root_word c)) where
   abbrev p : Passed (deletion c k) words dock t s.leftover s.reached
   p = judged-ready (deletion c k) words dock t s j
 
@@ -46,7 +43,8 @@ module _ (c k words dock : ℕ) (t : Words) (s : Sound) (j : judged (no_collecti
     delete-refused h = ready-number (deletion c k) words dock t p ∙ rw (sym has ∙ h)
 
     pub delete-accepted : b ≡ true → refusal (deletion c k) words dock t ≡ 0
-    delete-accepted h = ready-accepted (deletion c k) words dock t p (ap (has_key k) (map-later c t p.found.is-sound p.collection) ∙ sym has ∙ h)
+    delete-accepted h = ready-accepted (deletion c k) words dock t p
+        (ap (has_key k) (map-later c t p.found.is-sound p.collection) ∙ sym has ∙ h)
 
 -- ---- the stores: the repair, then those that the repaired table calls for
 
@@ -55,11 +53,18 @@ unfolding stores_of delete_stores
 delete-stores c t k = refl
 
 -- an accepted deletion, from its first pen on
-pub begun : (c k dock : ℕ) {d : Desk} (s : Sound) {r : ℕ} {b : Bool} → judged (no_collection c d.table) (length d.list) dock d.table ≡ Ok s → r ≡ at d.table (root_word c)
-    → b ≡ has_key k (mapping (view_from d.table r)) → b ≡ true → d.pen ≡ first_pen dock → Begun (deletion c k) dock d (λ (u : Words). delete_settled c u k)
+pub begun : (c k dock : ℕ) {d : Desk} (s : Sound) {r : ℕ} {b : Bool} → judged (no_collection c d.table) (length d.list) dock d.table ≡ Ok s
+    → r ≡ at d.table (root_word c)
+    → b ≡ has_key k (mapping (view_from d.table r)) → b ≡ true → d.pen ≡ first_pen dock
+    → Begun (deletion c k) dock d (λ (u : Words). delete_settled c u k)
 begun c k dock {d} s j q e h f =
     let p = judged-ready (deletion c k) (length d.list) dock d.table s j in
-    record { is-sound = p.found.is-sound; accepted = delete-accepted c k (length d.list) dock d.table s j q e h; first = f; stores = delete-stores c d.table k }
+    record {
+      is-sound = p.found.is-sound;
+      accepted = delete-accepted c k (length d.list) dock d.table s j q e h;
+      first = f;
+      stores = delete-stores c d.table k;
+    }
 
 -- by the root r: leaf x, its parent p and whether the leaf is freed, looked up on a settled table before the first of these stores
 pub record Found (c k : ℕ) (w : Writer) (r x p : ℕ) (b : Bool) : Type 0 where
@@ -73,10 +78,22 @@ pub record Found (c k : ℕ) (w : Writer) (r x p : ℕ) (b : Bool) : Type 0 wher
   pub frees : (n : ℕ) → r ≡ at w.table.now (root_word n) → b ≡ frees_leaf n w.table.now p x
 
 -- as the code reads them, from a slice that has the table's words
-pub found : {c k : ℕ} {w : Writer} {u : Words} {r x p : ℕ} {b : Bool} → u ≡ w.table.now → no_collection c w.table.now ≡ false → settled w.table.now ≡ true → has_key k (map_of c w.table.now) ≡ true
-    → Room (delete_settled c w.table.now k) (of w) → r ≡ at u (root_word c) → x ≡ standing_in (view_from u r) 0 k → p ≡ standing_in (view_from u r) 1 k
+pub found : {c k : ℕ} {w : Writer} {u : Words} {r x p : ℕ} {b : Bool} → u ≡ w.table.now → no_collection c w.table.now ≡ false
+    → settled w.table.now ≡ true → has_key k (map_of c w.table.now) ≡ true
+    → Room (delete_settled c w.table.now k) (of w) → r ≡ at u (root_word c) → x ≡ standing_in (view_from u r) 0 k → p
+    ≡ standing_in (view_from u r) 1 k
     → ((n : ℕ) → r ≡ at u (root_word n) → b ≡ frees_leaf n u p x) → Found c k w r x p b
-found t a s h m e q v f = record { collection = a; is-settled = s; has-key = h; room = m; root = rw t at e; leaf-at = rw t at q; parent-at = rw t at v; frees = rw t at f }
+found t a s h m e q v f =
+    record {
+      collection = a;
+      is-settled = s;
+      has-key = h;
+      room = m;
+      root = rw t at e;
+      leaf-at = rw t at q;
+      parent-at = rw t at v;
+      frees = rw t at f;
+    }
 
 module _ {c k : ℕ} {w : Writer} {r x p : ℕ} {b : Bool} (f : Found c k w r x p b) where
   abbrev t : Words

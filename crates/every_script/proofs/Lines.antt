@@ -1,9 +1,5 @@
 -- Two lines put into a text one after the other are what the definition prints.
-use mathlib.Core.Path.{◌≡◌, ◌∙◌}
-use mathlib.Core.List.{[], ◌∷◌, ◌++◌, append_assoc}
-use Prim.Native.Nat.{ℕ, ◌≤◌}
-use native.Mathlib.Omega.{arith}
-use lib.ListN.{length, length-append}
+use Rattle.std.proofs.Common.{◌≡◌, ℕ, ◌≤◌, [], ◌∷◌, ◌++◌, length, ◌∙◌, append_assoc, arith, length-append}
 use Rattle.model.specs.Printer.{Bytes, decimal}
 use Rattle.model.specs.Scripts.{tables_met, bad_met, met_text}
 use Rattle.script_bytes.specs.declared.Text.{Text}

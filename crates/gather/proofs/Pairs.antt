@@ -1,13 +1,8 @@
 -- The pairs kept and their recordings: looked through, and one more among them.
-use mathlib.Core.Path.{◌≡◌, refl, ap, sym, subst, ◌∙◌}
-use mathlib.Core.Bool.{Bool, true, false, cond, not, ◌&&◌, ◌||◌, or_assoc}
-use mathlib.Core.Logic.{⊎_elim}
-use mathlib.Core.List.{List, [], ◌∷◌, ◌++◌, append-nil}
-use Prim.Native.Nat.{ℕ, suc, ◌+◌, ◌-◌, ◌*◌, ◌%◌}
-use native.Mathlib.Omega.{arith}
-use lib.Dec.{eqb, ltb}
-use lib.ListN.{length, take, drop, length-drop, length-append, take-append-drop, drop_of_length-le}
-use lib.Seq.{take-take, take_all, take_at, drop_at, get_or-take, length-take-le}
+use Rattle.std.proofs.Common.{◌≡◌, ℕ, suc, ◌+◌, ◌-◌, ◌*◌, ◌%◌, Bool, true, false, cond, not, ◌&&◌, ◌||◌, eqb, ltb, List, [], ◌∷◌, ◌++◌}
+use Rattle.std.proofs.Common.{length, take, drop, sym, refl, ap, ◌∙◌, subst, ⊎_elim, append-nil, arith, length-append, length-drop}
+use Rattle.std.proofs.Common.{take-append-drop, drop_of_length-le, length-take-le, take_all, get_or-take, take-take, take_at, drop_at}
+use mathlib.Core.Bool.{or_assoc}
 use Rattle.std.proofs.lemmas.List.{drop-take}
 use Rattle.model.specs.Table.{Words}
 use Rattle.model.specs.Slots.{Slot, slot, slots_of, recording_of, recording, pointer_ok}
@@ -28,21 +23,25 @@ use Rattle.gather.specs.Held.{pairs_of, Standing, Filing}
 
 -- ---- a pair more
 
+-- with k entered, a map has key q exactly if q is k or the map had it
 pub enter-key : (q k p : ℕ) (ps : List Slot) → has_key q (enter k p ps) ≡ (eqb k q || has_key q ps)
 unfolding enter has_key
 enter-key q k p [] = refl
 enter-key q k p (s ∷ ss) = go (ltb k s.key) (enter-key q k p ss)
   where
-    go : (b : Bool) → has_key q (enter k p ss) ≡ (eqb k q || has_key q ss) → has_key q (cond b (slot k p ∷ s ∷ ss) (s ∷ enter k p ss)) ≡ (eqb k q || (eqb s.key q || has_key q ss))
+    go : (b : Bool) → has_key q (enter k p ss) ≡ (eqb k q || has_key q ss) → has_key q (cond b (slot k p ∷ s ∷ ss) (s ∷ enter k p ss))
+        ≡ (eqb k q || (eqb s.key q || has_key q ss))
     go true h = unfold has_key in refl
     go false h = unfold has_key in (ap (λ (b : Bool). eqb s.key q || b) h ∙ or-swap (eqb s.key q) (eqb k q) (has_key q ss))
 
+-- entering a pair makes a map longer by one
 pub enter-length : (k p : ℕ) (ps : List Slot) → length (enter k p ps) ≡ suc (length ps)
 unfolding enter
 enter-length k p [] = refl
 enter-length k p (s ∷ ss) = go (ltb k s.key) (enter-length k p ss)
   where
-    go : (b : Bool) → length (enter k p ss) ≡ suc (length ss) → length (cond b (slot k p ∷ s ∷ ss) (s ∷ enter k p ss)) ≡ suc (suc (length ss))
+    go : (b : Bool) → length (enter k p ss) ≡ suc (length ss)
+        → length (cond b (slot k p ∷ s ∷ ss) (s ∷ enter k p ss)) ≡ suc (suc (length ss))
     go true h = refl
     go false h = ap suc h
 
@@ -51,14 +50,17 @@ enter-length k p (s ∷ ss) = go (ltb k s.key) (enter-length k p ss)
 has-append : (r : ℕ) (xs ys : List Slot) → has_recording r (xs ++ ys) ≡ (has_recording r xs || has_recording r ys)
 unfolding has_recording
 has-append r [] ys = refl
-has-append r (s ∷ ss) ys = ap (λ (b : Bool). eqb (recording s) r || b) (has-append r ss ys) ∙ sym (or_assoc (eqb (recording s) r) (has_recording r ss) (has_recording r ys))
+has-append r (s ∷ ss) ys =
+    ap (λ (b : Bool). eqb (recording s) r || b) (has-append r ss ys)
+    ∙ sym (or_assoc (eqb (recording s) r) (has_recording r ss) (has_recording r ys))
 
 -- those below the gap, and those above it
 module _ (words : Words) (b : ℕ) (t : Tally) (r : ℕ) (s : Standing words b t) where
   abbrev front : Words
   front = take (2 * b) words
 
-  parts-are : (high end : ℕ) → end ≡ 2 * b → high ≡ end - 2 * (t.kept - t.at) → pairs_of words b t ≡ slots_of (take (2 * t.at) words) ++ slots_of (take (end - high) (drop high words))
+  parts-are : (high end : ℕ) → end ≡ 2 * b → high ≡ end - 2 * (t.kept - t.at) → pairs_of words b t ≡ slots_of (take (2 * t.at) words)
+      ++ slots_of (take (end - high) (drop high words))
   parts-are high end e f =
       let g = s.below in
       let h = s.few in
@@ -67,24 +69,30 @@ module _ (words : Words) (b : ℕ) (t : Tally) (r : ℕ) (s : Standing words b t
       let w : length front - 2 * (t.kept - t.at) ≡ high = omega arith in
       let sum : high + (end - high) ≡ 2 * b = omega arith in
       let lo : take (2 * t.at) front ≡ take (2 * t.at) words = take-take (2 * t.at) (2 * b) words (omega arith) in
-      let hi : drop high front ≡ take (end - high) (drop high words) = ap (λ (n : ℕ). drop high (take n words)) (sym sum) ∙ drop-take high (end - high) words in
-      ap (λ (x : Words). slots_of x ++ slots_of (drop (length front - 2 * (t.kept - t.at)) front)) lo ∙ ap (λ (n : ℕ). slots_of (take (2 * t.at) words) ++ slots_of (drop n front)) w
+      let hi : drop high front ≡ take (end - high) (drop high words) =
+      ap (λ (n : ℕ). drop high (take n words)) (sym sum) ∙ drop-take high (end - high) words in
+      ap (λ (x : Words). slots_of x ++ slots_of (drop (length front - 2 * (t.kept - t.at)) front)) lo
+      ∙ ap (λ (n : ℕ). slots_of (take (2 * t.at) words) ++ slots_of (drop n front)) w
       ∙ ap (λ (x : Words). slots_of (take (2 * t.at) words) ++ slots_of x) hi
 
-  pub kept-low : (x : Bool) → x ≡ has_recording r (slots_of (take (2 * t.at) words)) → x ≡ true → true ≡ has_recording r (pairs_of words b t)
+  pub kept-low : (x : Bool) → x ≡ has_recording r (slots_of (take (2 * t.at) words)) → x ≡ true → true
+      ≡ has_recording r (pairs_of words b t)
   kept-low x e z =
       let high = 2 * b - 2 * (t.kept - t.at) in
       let low = slots_of (take (2 * t.at) words) in
       let rest = slots_of (take (2 * b - high) (drop high words)) in
-      sym (ap (has_recording r) (parts-are high (2 * b) refl refl) ∙ has-append r low rest ∙ ap (λ (y : Bool). y || has_recording r rest) (sym e ∙ z))
+      sym (ap (has_recording r) (parts-are high (2 * b) refl refl) ∙ has-append r low rest
+      ∙ ap (λ (y : Bool). y || has_recording r rest) (sym e ∙ z))
 
   pub kept-high : (x y : Bool) → x ≡ has_recording r (slots_of (take (2 * t.at) words)) → x ≡ false
-      → y ≡ has_recording r (slots_of (take (2 * b - (2 * b - 2 * (t.kept - t.at))) (drop (2 * b - 2 * (t.kept - t.at)) words))) → y ≡ has_recording r (pairs_of words b t)
+      → y ≡ has_recording r (slots_of (take (2 * b - (2 * b - 2 * (t.kept - t.at))) (drop (2 * b - 2 * (t.kept - t.at)) words))) → y
+      ≡ has_recording r (pairs_of words b t)
   kept-high x y e z f =
       let high = 2 * b - 2 * (t.kept - t.at) in
       let low = slots_of (take (2 * t.at) words) in
       let rest = slots_of (take (2 * b - high) (drop high words)) in
-      f ∙ sym (ap (has_recording r) (parts-are high (2 * b) refl refl) ∙ has-append r low rest ∙ ap (λ (v : Bool). v || has_recording r rest) (sym e ∙ z))
+      f ∙ sym (ap (has_recording r) (parts-are high (2 * b) refl refl) ∙ has-append r low rest
+      ∙ ap (λ (v : Bool). v || has_recording r rest) (sym e ∙ z))
 
 -- ---- a recording entered
 
@@ -114,7 +122,8 @@ module _ (words : Words) (b : ℕ) (t : Tally) (r : ℕ) (s : Standing words b t
   back-cells : (cs : Words) → drop (2 * b) (back cs) ≡ cs
   back-cells cs =
       drop_at (take (2 * b) words) (cs ++ drop n (drop (2 * b) words)) (2 * b) front-long
-      ∙ ap (λ (l : Words). cs ++ l) (drop_of_length-le (drop (2 * b) words) {i = n} (let d = length-drop (2 * b) words in omega arith)) ∙ append-nil cs
+      ∙ ap (λ (l : Words). cs ++ l)
+      (drop_of_length-le (drop (2 * b) words) {i = n} (let d = length-drop (2 * b) words in omega arith)) ∙ append-nil cs
 
   back-long : (cs : Words) → length cs ≡ n → length (back cs) - 2 * b ≡ n
   back-long cs e = ap (λ (l : ℕ). l - 2 * b) (sym (ap length (take-append-drop (2 * b) (back cs)))) ∙ (
@@ -163,7 +172,8 @@ module _ (words : Words) (b : ℕ) (t : Tally) (r : ℕ) (s : Standing words b t
           recorded = rw (l, back-cells cs, f, y.0) s.recorded;
         }
 
-    pub new-full : e ≡ Err Full → (x : Bool) → x ≡ has_recording r (pairs_of (back cs) b t) → (not x ≡ not (mem r)) × Filing words b t r (not x) (back cs)
+    pub new-full : e ≡ Err Full → (x : Bool) → x ≡ has_recording r (pairs_of (back cs) b t) → (not x ≡ not (mem r))
+        × Filing words b t r (not x) (back cs)
     new-full z x h =
         let y = told-as (Err Full) z in
         let same : x ≡ mem r = h ∙ ap (λ (l : Words). has_recording r (around l t.at t.kept)) (back-front cs) in
@@ -178,18 +188,22 @@ module _ (words : Words) (b : ℕ) (t : Tally) (r : ℕ) (s : Standing words b t
 pub filing-none : (words : Words) (b : ℕ) (t : Tally) (r : ℕ) → Standing words b t → Filing words b t r false words
 filing-none words b t r s = record { stay = refl; recorded = s.recorded }
 
-pub filing-as : (words : Words) (b : ℕ) (t : Tally) (r r' : ℕ) (x x' : Bool) (after : Words) → r ≡ r' → x ≡ x' → Filing words b t r x after → Filing words b t r' x' after
-filing-as words b t r r' x x' after e f h = subst (λ (i : ℕ). Filing words b t i x' after) e (subst (λ (v : Bool). Filing words b t r v after) f h)
+pub filing-as : (words : Words) (b : ℕ) (t : Tally) (r r' : ℕ) (x x' : Bool) (after : Words) → r ≡ r' → x ≡ x' → Filing words b t r x after
+    → Filing words b t r' x' after
+filing-as words b t r r' x x' after e f h =
+    subst (λ (i : ℕ). Filing words b t i x' after) e (subst (λ (v : Bool). Filing words b t r v after) f h)
 
 -- the last pair below the gap tells of the key
-pub standing-key : (words : Words) (b : ℕ) (t : Tally) (k : ℕ) → Standing words b t → Under (pairs_of words b t) k t.at → Over (pairs_of words b t) k t.at → ends_with words t.at k ≡ has_key k (pairs_of words b t)
+pub standing-key : (words : Words) (b : ℕ) (t : Tally) (k : ℕ) → Standing words b t → Under (pairs_of words b t) k t.at
+    → Over (pairs_of words b t) k t.at → ends_with words t.at k ≡ has_key k (pairs_of words b t)
 standing-key words b t k s u o =
     let f = s.below in
     let g = s.few in
     let c = s.cells in
     let l : length (take (2 * b) words) ≡ 2 * b = length-take-le (2 * b) words (omega arith) in
     ⊎_elim (λ e. sym (ends-none words t.at k e) ∙ ends-none (take (2 * b) words) t.at k e)
-    (λ d. sym (ends-some words t.at k d) ∙ ap (λ (x : ℕ). eqb x k) (sym (get_or-take (2 * b) words (2 * t.at - 2) 0 (omega arith))) ∙ ends-some (take (2 * b) words) t.at k d) (same-or-not t.at 0)
+    (λ d. sym (ends-some words t.at k d) ∙ ap (λ (x : ℕ). eqb x k) (sym (get_or-take (2 * b) words (2 * t.at - 2) 0 (omega arith)))
+    ∙ ends-some (take (2 * b) words) t.at k d) (same-or-not t.at 0)
     ∙ ends-key (take (2 * b) words) t.kept t.at k (omega arith) f s.rise u o
 
 module _ (ps : List Slot) (k p : ℕ) where
@@ -201,7 +215,8 @@ module _ (ps : List Slot) (k p : ℕ) where
   unfolding reason_for out_of_range
   reason-key e f = rw (e, f)
 
-  pub reason-recording : pointer_ok p ≡ true → has_key k ps ≡ false → has_recording (recording_of p) ps ≡ true → 3 ≡ reason_for ps (slot k p)
+  pub reason-recording :
+      pointer_ok p ≡ true → has_key k ps ≡ false → has_recording (recording_of p) ps ≡ true → 3 ≡ reason_for ps (slot k p)
   unfolding reason_for out_of_range
   reason-recording e f g = rw (e, f, g)
 

@@ -1,15 +1,12 @@
 -- Insertion into a collection of a settled table, in three parts: the new root, the splits, the pair shifted in.
-use mathlib.Core.Path.{◌≡◌, refl, ap, sym, ◌∙◌}
-use mathlib.Core.Bool.{true, false}
-use mathlib.Core.List.{List, [], ◌++◌}
-use Prim.Native.Nat.{ℕ, ◌≤◌, ◌<◌}
-use native.Mathlib.Omega.{arith}
+use Rattle.std.proofs.Common.{◌≡◌, ℕ, ◌<◌, ◌≤◌, true, false, List, [], ◌++◌, sym, refl, ap, ◌∙◌, arith}
 use Rattle.model.specs.Table.{Words, at, header_ok, root_word, no_collection}
 use Rattle.model.specs.Slots.{RECORDINGS, pointer_of, view_from}
 use Rattle.model.specs.Reached.{reached_all}
 use Rattle.model.specs.SoundTest.{elem, settled}
 use Rattle.model.specs.Orders.{Store, apply}
-use Rattle.model.specs.Writes.{shift_in_at, standing_in, standing, splits, root_stores, insert_settled, insert_stores, repair_stores, repaired, insertion, stores_of}
+use Rattle.model.specs.Writes.{shift_in_at, standing_in, standing, splits, root_stores, insert_settled, insert_stores, repair_stores}
+use Rattle.model.specs.Writes.{repaired, insertion, stores_of}
 use Rattle.list_laws.proofs.Recordings.{recording-iff, class-iff}
 use Rattle.two_laws.specs.Parts.{Enters, Ready}
 use Rattle.two_laws.proofs.CollectionTwo.{settled-head}
@@ -98,7 +95,9 @@ module _ {o : ℕ} {w : Writer} {k r c : ℕ} {run : Run} (h : Enterable o w k r
         leaf = root-stands o u.table.now root e n 0 k f
 
         pub leaf-plain : Plain u.table.now n
-        leaf-plain = rw leaf (settled-plain o u.table.now split-collection split-settled _ (standing-reached o u.table.now split-collection split-settled 0 k (omega arith)))
+        leaf-plain = rw leaf
+            (settled-plain o u.table.now split-collection split-settled _
+            (standing-reached o u.table.now split-collection split-settled 0 k (omega arith)))
 
         module _ {x : ℕ} (q : x ≡ pointer_of r c) where
           pub in-room : Room (shift_in_at u.table.now n k x) (of u)
@@ -111,11 +110,13 @@ module _ {o : ℕ} {w : Writer} {k r c : ℕ} {run : Run} (h : Enterable o w k r
             pub all-entered : Makes (insert_settled o t k (pointer_of r c)) w z
             all-entered =
                 stored-as whole-stores
-                (part-stored (root_stores o t k) (later o k y run.length) g (part-stored (splits o run.length v.table.now k) (last o k y) s (rw (leaf, q) at i)))
+                (part-stored (root_stores o t k) (later o k y run.length) g
+                (part-stored (splits o run.length v.table.now k) (last o k y) s (rw (leaf, q) at i)))
 
             pub in-marked : (marks : Words) → Marked u.table.now marks → Marked z.table.now marks
             in-marked marks m =
-                rw (part-table (shift_in_at u.table.now n k x) (λ (a : Words). []) i) (stays-marked u.table.now _ marks (λ j d. ap (elem j) in-reached ∙ d) m)
+                rw (part-table (shift_in_at u.table.now n k x) (λ (a : Words). []) i)
+                (stays-marked u.table.now _ marks (λ j d. ap (elem j) in-reached ∙ d) m)
 
 -- ---- after the repair
 
@@ -126,7 +127,8 @@ pub insert-stores : (o : ℕ) (t : Words) (k r c : ℕ) → stores_of (insertion
 unfolding stores_of insert_stores
 insert-stores o t k r c = refl
 
-module _ {o k r c dock : ℕ} {w v : Writer} (b : Begun (insertion o k r c) dock (of w) (entering o k r c)) (g : Makes (repair_stores w.table.now) w v) where
+module _ {o k r c dock : ℕ} {w v : Writer} (b : Begun (insertion o k r c) dock (of w) (entering o k r c))
+    (g : Makes (repair_stores w.table.now) w v) where
   pub enter-enters : Enters o k r c v.table.now
   enter-enters = rw (mended-table b g) (begun-allows b)
 
@@ -134,4 +136,6 @@ module _ {o k r c dock : ℕ} {w v : Writer} (b : Begun (insertion o k r c) dock
   enter-run e = e ∙ ap (λ (u : Words). run_of o u k) (sym (mended-table b g))
 
   pub enter-marked : (marks : Words) → Marked w.table.now marks → Marked v.table.now marks
-  enter-marked marks m = rw (mended-table b g) (stays-marked w.table.now (repaired w.table.now) marks (λ j e. ap (elem j) (reached-later w.table.now b.is-sound) ∙ e) m)
+  enter-marked marks m =
+      rw (mended-table b g)
+      (stays-marked w.table.now (repaired w.table.now) marks (λ j e. ap (elem j) (reached-later w.table.now b.is-sound) ∙ e) m)

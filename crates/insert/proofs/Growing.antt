@@ -1,12 +1,5 @@
 -- The new root of a collection of a settled table, where the run includes the root.
-use mathlib.Core.Path.{◌≡◌, ap, sym, ◌∙◌}
-use mathlib.Core.Bool.{Bool, true, false, cond}
-use mathlib.Core.Logic.{◌⊎◌, inl, inr}
-use mathlib.Core.List.{[]}
-use Prim.Native.Nat.{ℕ, ◌+◌, ◌≤◌, ◌<◌}
-use native.Mathlib.Omega.{arith}
-use lib.ListN.{length}
-use borrow.Author.Tests.{ltb-false}
+use Rattle.std.proofs.Common.{◌≡◌, ℕ, ◌+◌, ◌<◌, ◌≤◌, Bool, true, false, cond, ◌⊎◌, [], length, sym, ap, ◌∙◌, inl, inr, arith, ltb-false}
 use Rattle.model.specs.Table.{MARK, Words, at, nodes, header_ok, root_word, has_node}
 use Rattle.model.specs.Slots.{height, view_of}
 use Rattle.model.specs.SoundTest.{sound}

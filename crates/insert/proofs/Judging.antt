@@ -1,11 +1,7 @@
 -- The run counted on a sound table is that of the table as repair would leave it, and the refusal found is the call's.
-use mathlib.Core.Path.{◌≡◌, refl, ap, sym, ◌∙◌}
-use mathlib.Core.Bool.{true, false, cond}
+use Rattle.std.proofs.Common.{◌≡◌, ℕ, ◌+◌, ◌≤◌, true, false, cond, eqb, length, sym, refl, ap, ◌∙◌}
 use mathlib.Core.List.{Memᴰ}
 use mathlib.Core.Option.{Option, some}
-use Prim.Native.Nat.{ℕ, ◌+◌, ◌≤◌}
-use lib.Dec.{eqb}
-use lib.ListN.{length}
 use Rattle.std.specs.Prelude.{Option as Known, Some}
 use Rattle.std.specs.Option.{option_eq}
 use Rattle.model.specs.Results.{Outcome, passed}
@@ -49,21 +45,27 @@ run-judged n t y k s h e =
     let o = collection-orderly n t s h in
     let judged : (m : ℕ) → Memᴰ m (reached v) → full_in v (parent_of y) m ≡ full (node_view (repaired t) m).shown =
     λ m j. unfold full_in in
-    ap (λ (x : ℕ). eqb (length (kept v m) + x) 11) (lacking-is y m ∙ ap (λ (z : Option Leftover). lacking_in z m) (sym e) ∙ sym (lacking-all n t m s i j))
+    ap (λ (x : ℕ). eqb (length (kept v m) + x) 11)
+    (lacking-is y m ∙ ap (λ (z : Option Leftover). lacking_in z m) (sym e) ∙ sym (lacking-all n t m s i j))
     ∙ sym (full-later n t s i k m j) in
     run-of v n (repaired t) k (parent_of y) ((repaired-later t (root_word n) s i).path k)
-    (Each-map (λ (m : ℕ). Memᴰ m (reached v)) (λ (m : ℕ). full_in v (parent_of y) m ≡ full (node_view (repaired t) m).shown) (path v k) judged (path-reached v k o))
+    (Each-map (λ (m : ℕ). Memᴰ m (reached v)) (λ (m : ℕ). full_in v (parent_of y) m ≡ full (node_view (repaired t) m).shown) (path v k)
+    judged (path-reached v k o))
 
 -- a sound table, with what is known of it
-pub handed : (o k r c : ℕ) {words dock : ℕ} {t : Words} {x : Sound} → Found t x → no_collection o t ≡ false → dock ≤ 1 → words_for dock ≤ words
+pub handed : (o k r c : ℕ) {words dock : ℕ} {t : Words} {x : Sound} → Found t x → no_collection o t ≡ false → dock ≤ 1
+    → words_for dock ≤ words
     → Passed (insertion o k r c) words dock t x.leftover x.reached
 handed o k r c f h d w = record { found = f; collection = h; dock-ok = d; long = w }
 
 module _ {o k r c words dock : ℕ} {t : Words} {x : said.Leftover} {n : ℕ} (p : Passed (insertion o k r c) words dock t x n) where
-  pub run-later : {left : Known ℕ} {root : ℕ} {run : Run} → left ≡ parent_of (meant x) → root ≡ at t (root_word o) → run ≡ full_run (view_from t root) k left
+  -- the run found with the parent that lacks a slot is the run in the repaired table
+  pub run-later : {left : Known ℕ} {root : ℕ} {run : Run} → left ≡ parent_of (meant x) → root ≡ at t (root_word o) → run
+      ≡ full_run (view_from t root) k left
       → run ≡ run_of o (repaired t) k
   run-later {left} b f e =
-      e ∙ ap (λ (z : ℕ). full_run (view_from t z) k left) f ∙ ap (full_run (view_of o t) k) b ∙ run-judged o t (meant x) k p.found.is-sound p.collection p.found.leftover-is
+      e ∙ ap (λ (z : ℕ). full_run (view_from t z) k left) f ∙ ap (full_run (view_of o t) k) b
+      ∙ run-judged o t (meant x) k p.found.is-sound p.collection p.found.leftover-is
 
   number-is : number_for o t k r c (run_of o (repaired t) k) ≡ refusal (insertion o k r c) words dock t
   unfolding number_for too_high too_few
@@ -72,5 +74,7 @@ module _ {o k r c words dock : ℕ} {t : Words} {x : said.Leftover} {n : ℕ} (p
       let v = repaired-later t (root_word o) s (there o t p.collection).1 in
       sym (ready-number (insertion o k r c) words dock t p ∙ rw (v.height, unreachable-later t s))
 
-  pub insert-number : {run : Run} {m : Outcome} → run ≡ run_of o (repaired t) k → m ≡ passed (number_for o t k r c run) → passed (refusal (insertion o k r c) words dock t) ≡ m
+  -- the insertion's answer by the tests of that run is the refusal of the insertion
+  pub insert-number : {run : Run} {m : Outcome} → run ≡ run_of o (repaired t) k → m ≡ passed (number_for o t k r c run)
+      → passed (refusal (insertion o k r c) words dock t) ≡ m
   insert-number e q = sym (q ∙ ap (λ (u : Run). passed (number_for o t k r c u)) e ∙ ap passed number-is)

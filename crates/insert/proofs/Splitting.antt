@@ -1,10 +1,6 @@
 -- The splits of the run: what each needs of its nodes, and the run in the rest form.
-use mathlib.Core.Path.{◌≡◌, ap, sym}
-use mathlib.Core.Bool.{true}
-use mathlib.Core.List.{◌++◌, Memᴰ}
-use Prim.Native.Nat.{ℕ, zero, suc, ◌+◌, ◌-◌, ◌≤◌, ◌<◌}
-use native.Mathlib.Numerals.{add-one}
-use native.Mathlib.Omega.{arith}
+use Rattle.std.proofs.Common.{◌≡◌, ℕ, zero, suc, ◌+◌, ◌-◌, ◌<◌, ◌≤◌, true, ◌++◌, sym, ap, add-one, arith}
+use mathlib.Core.List.{Memᴰ}
 use Rattle.model.specs.Table.{Words, at, nodes, header_ok, root_word, has_node}
 use Rattle.model.specs.Slots.{view_from, view_of}
 use Rattle.model.specs.Reached.{reached}
@@ -47,7 +43,8 @@ module _ {n : ℕ} {t : Words} {k l : ℕ} (s : Splittable n t k l) where
     lower = root-stands n t r er a l k ea
 
     pub lower-range : (1 ≤ a) × (a ≤ nodes t)
-    lower-range = rw lower (each-mem (UpTo (nodes t)) (reached-numbers (view_of n t) (collection-orderly n t split-sound s.collection)) lower-reached)
+    lower-range = rw lower
+        (each-mem (UpTo (nodes t)) (reached-numbers (view_of n t) (collection-orderly n t split-sound s.collection)) lower-reached)
 
     pub lower-plain : Plain t a
     lower-plain = rw lower (settled-plain n t s.collection s.settled _ lower-reached)
@@ -61,7 +58,8 @@ module _ {n : ℕ} {t : Words} {k l : ℕ} (s : Splittable n t k l) where
       upper-there = rw (eb, lower) (fresh-there n t s.collection s.settled _ lower-reached s.some)
 
       pub parent-plain : Plain t p
-      parent-plain = rw above (settled-plain n t s.collection s.settled _ (standing-reached n t s.collection s.settled (suc l) k s.node.high))
+      parent-plain = rw above
+          (settled-plain n t s.collection s.settled _ (standing-reached n t s.collection s.settled (suc l) k s.node.high))
 
 -- ---- the run, from the highest level down
 

@@ -1,9 +1,5 @@
 -- The tests of an insertion from 6 on, one by one.
-use mathlib.Core.Path.{◌≡◌, ap, sym, ◌∙◌}
-use mathlib.Core.Bool.{Bool, true, false, ◌&&◌}
-use Prim.Native.Nat.{ℕ}
-use lib.Dec.{eqb}
-use lib.ListN.{length}
+use Rattle.std.proofs.Common.{◌≡◌, ℕ, Bool, true, false, ◌&&◌, eqb, length, sym, ap, ◌∙◌}
 use Rattle.model.specs.Table.{Words, at, root_word}
 use Rattle.model.specs.Slots.{recording_ok, class_ok, View, view_from, height}
 use Rattle.model.specs.Reached.{mapping, map_of}
@@ -25,10 +21,12 @@ pub recording-hit : (v : View) (r : ℕ) (h : Option Hit) → sound_view v ≡ t
 recording-hit v r h s e = ap is_some e ∙ found-recording v r s
 
 -- where it is known, by the root that was read
-known-here : (n : ℕ) (t : Words) (root : ℕ) → root ≡ at t (root_word n) → (known : Bool) (r : ℕ) → known ≡ has_recording r (map_of n t) → has_recording r (mapping (view_from t root)) ≡ known
+known-here : (n : ℕ) (t : Words) (root : ℕ) → root ≡ at t (root_word n) → (known : Bool) (r : ℕ) → known ≡ has_recording r (map_of n t)
+    → has_recording r (mapping (view_from t root)) ≡ known
 known-here n t root e known r q = ap (λ (x : ℕ). has_recording r (mapping (view_from t x))) e ∙ sym q
 
-pub found-here : (n : ℕ) (t : Words) (root : ℕ) → root ≡ at t (root_word n) → (known : Bool) (r : ℕ) → known ≡ has_recording r (mapping (view_from t root)) → known ≡ has_recording r (map_of n t)
+pub found-here : (n : ℕ) (t : Words) (root : ℕ) → root ≡ at t (root_word n) → (known : Bool) (r : ℕ) → known
+    ≡ has_recording r (mapping (view_from t root)) → known ≡ has_recording r (map_of n t)
 found-here n t root e known r q = q ∙ ap (λ (x : ℕ). has_recording r (mapping (view_from t x))) e
 
 -- ---- 11
@@ -40,7 +38,9 @@ root-level t o run w e q = ap (λ (l : ℕ). eqb l 15) (q ∙ word-level t o) �
 
 -- all of them, by the root that was read
 number-first : (n : ℕ) (t : Words) (k r c : ℕ) (run : Run) (root : ℕ) → root ≡ at t (root_word n)
-    → number_for n t k r c run ≡ first_number (map_tests (insertion n k r c) (high_run (view_from t root) run) (few_for (length (unreachable t)) run) (mapping (view_from t root)))
+    → number_for n t k r c run
+    ≡ first_number (map_tests (insertion n k r c) (high_run (view_from t root) run) (few_for (length (unreachable t)) run)
+    (mapping (view_from t root)))
 unfolding number_for
 number-first n t k r c run root e = rw e
 
@@ -75,4 +75,5 @@ module _ (n : ℕ) (t : Words) (k r c : ℕ) (run : Run) {root : ℕ} (e : root 
             no-nodes h = sym (number-first n t k r c run root e ∙ rw (sym qa ∙ ha, sym qb ∙ hb, sym qd ∙ hd, knows hk, sym qf ∙ hf, few h))
 
             pub none-holds : g ≡ false → 0 ≡ number_for n t k r c run
-            none-holds h = sym (number-first n t k r c run root e ∙ rw (sym qa ∙ ha, sym qb ∙ hb, sym qd ∙ hd, knows hk, sym qf ∙ hf, few h))
+            none-holds h = sym (number-first n t k r c run root e
+                ∙ rw (sym qa ∙ ha, sym qb ∙ hb, sym qd ∙ hd, knows hk, sym qf ∙ hf, few h))

@@ -1,10 +1,5 @@
 -- How many pairs are told to be new: one width asked for after another.
-use mathlib.Core.Path.{◌≡◌, refl, sym, ◌∙◌}
-use mathlib.Core.Bool.{Bool, true, false}
-use Prim.Native.Nat.{ℕ, zero, suc, ◌+◌, ◌-◌, ◌/◌, ◌≤◌, ◌<◌}
-use native.Mathlib.Omega.{arith}
-use lib.ListN.{length}
-use borrow.Author.Tests.{lt-ltb, le-ltb}
+use Rattle.std.proofs.Common.{◌≡◌, ℕ, zero, suc, ◌+◌, ◌-◌, ◌/◌, ◌<◌, ◌≤◌, Bool, true, false, length, sym, refl, ◌∙◌, arith, le-ltb, lt-ltb}
 use Rattle.model.specs.Table.{Words, at, root_word}
 use Rattle.model.specs.Slots.{View, view_from}
 use Rattle.clear.specs.New.{are_new}
@@ -52,9 +47,11 @@ module _ (n : ℕ) (t pairs : Words) (i end : ℕ) where
   unfolding new_end
   end-before h = rw (lt-ltb i end h)
 
-  pub end-told : end ≤ i → (r w : ℕ) → r ≡ at t (root_word n) → w ≡ new_width (view_from t r) pairs i (length pairs / 2 - i) (length pairs / 2 - i) → i + w ≡ new_end n t pairs i end
+  pub end-told : end ≤ i → (r w : ℕ) → r ≡ at t (root_word n) → w
+      ≡ new_width (view_from t r) pairs i (length pairs / 2 - i) (length pairs / 2 - i) → i + w ≡ new_end n t pairs i end
   unfolding new_end
   end-told h r w q e = rw (le-ltb i end h, e, q)
 
-  pub end-none : end ≤ i → (r : ℕ) → r ≡ at t (root_word n) → 0 ≡ new_width (view_from t r) pairs i (length pairs / 2 - i) (length pairs / 2 - i) → i ≡ new_end n t pairs i end
+  pub end-none : end ≤ i → (r : ℕ) → r ≡ at t (root_word n) → 0
+      ≡ new_width (view_from t r) pairs i (length pairs / 2 - i) (length pairs / 2 - i) → i ≡ new_end n t pairs i end
   end-none h r q e = let z : i ≡ i + 0 = omega arith in z ∙ end-told h r 0 q e

@@ -1,16 +1,10 @@
 -- Characters: what letters and digits count, alone and all along a text.
-use mathlib.Core.Path.{◌≡◌, refl, sym, ap, ap₂, ◌∙◌}
-use mathlib.Core.Bool.{Bool, true, false, ◌&&◌, ◌||◌, and-eq-true_iff, and-false, or-true}
-use mathlib.Core.Logic.{◌⊎◌, inl, inr, ⊎_elim}
-use mathlib.Core.List.{List, [], ◌∷◌, map}
-use Prim.Native.Nat.{ℕ, zero, suc, ◌+◌, ◌-◌, ◌*◌, ◌≤◌, ◌<◌}
+use Rattle.std.proofs.Common.{◌≡◌, ℕ, zero, suc, ◌+◌, ◌-◌, ◌*◌, ◌<◌, ◌≤◌, Bool, true, false, ◌&&◌, ◌||◌, eqb, ltb, leb, ◌⊎◌, List, [], ◌∷◌}
+use Rattle.std.proofs.Common.{map, length, get_or, drop, sym, refl, ap, ◌∙◌, ap₂, inl, inr, ⊎_elim, add-one, arith, drop-cons, le-ltb}
+use Rattle.std.proofs.Common.{lt-ltb, eq-eqb, ne_eqb, le-leb, leb-true}
+use mathlib.Core.Bool.{and-eq-true_iff, and-false, or-true}
 use native.Mathlib.Decide.{dec_lt}
-use native.Mathlib.Numerals.{add-one}
-use native.Mathlib.Omega.{arith}
-use lib.Dec.{leb, ltb, eqb}
-use lib.ListN.{length, get_or, drop}
-use lib.Seq.{drop-cons}
-use borrow.Author.Tests.{leb-true, le-leb, lt-leb, lt-ltb, le-ltb, eq-eqb, ne_eqb}
+use borrow.Author.Tests.{lt-leb}
 use Rattle.model.specs.Codes.{is_digit, is_letter, is_letter_or_digit, value, read_on, character, text_below}
 use Rattle.model.specs.Lists.{all}
 use Rattle.list_laws.proofs.Tools.{Each-map, all-each}
@@ -35,6 +29,7 @@ not-digit : (c : ℕ) → 57 < c → is_digit c ≡ false
 unfolding is_digit
 not-digit c h = rw (lt-leb c 57 h, and-false)
 
+-- a digit's value is its character less 48
 pub value-digit : (c : ℕ) → is_digit c ≡ true → value c ≡ c - 48
 unfolding value
 value-digit c e = rw e
@@ -83,6 +78,7 @@ value-bound c e = ⊎_elim (λ l. omega arith) (λ d. omega arith) (letter-or-di
 pub digit-bound : (c : ℕ) → is_digit c ≡ true → value c < 10
 digit-bound c e = omega (arith, digit-range c e, value-digit c e)
 
+-- the character of a value below 10 is 48 more
 pub character-small : (d : ℕ) → d < 10 → character d ≡ 48 + d
 unfolding character
 character-small d h = rw (lt-ltb d 10 h)
@@ -112,8 +108,11 @@ value-order c d e f = go (dec_lt c d) (dec_lt d c)
         let v = value-monotone c d e f h in
         (lt-ltb c d h ∙ sym (lt-ltb (value c) (value d) v), ne_eqb c d (omega arith) ∙ sym (ne_eqb (value c) (value d) (omega arith)))
     go (no g) (yes h) =
-        let v = value-monotone d c f e h in
-        (le-ltb c d (omega arith) ∙ sym (le-ltb (value c) (value d) (omega arith)), ne_eqb c d (omega arith) ∙ sym (ne_eqb (value c) (value d) (omega arith)))
+        let v = value-monotone d c f e h in (
+          le-ltb c d (omega arith) ∙ sym (le-ltb (value c) (value d) (omega arith)),
+          ne_eqb c d (omega arith)
+              ∙ sym (ne_eqb (value c) (value d) (omega arith)),
+        )
     go (no g) (no h) =
         let q : c ≡ d = omega arith in
         let v : value c ≡ value d = ap value q in

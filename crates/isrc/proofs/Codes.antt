@@ -1,18 +1,15 @@
 -- Codes: their two numbers, the text that a key spells, and what reading and printing come to.
-use mathlib.Core.Path.{◌≡◌, refl, sym, ap, ap₂, ◌∙◌, subst}
-use mathlib.Core.Bool.{Bool, true, false, cond, ◌&&◌, and-eq-true_iff}
-use mathlib.Core.List.{List, ◌++◌, map, map-append}
-use Prim.Native.Nat.{ℕ, ◌-◌, ◌/◌, ◌<◌}
-use native.Mathlib.Nat.{le_of_eq}
-use native.Mathlib.Omega.{arith}
-use lib.Dec.{eqb, ltb}
-use lib.ListN.{length, take, drop, length-drop, length-map, take-append-drop}
-use lib.Seq.{take_all, take-add, length-take-le}
+use Rattle.std.proofs.Common.{◌≡◌, ℕ, ◌-◌, ◌/◌, ◌<◌, Bool, true, false, cond, ◌&&◌, eqb, ltb, List, ◌++◌, map, length, take, drop, sym}
+use Rattle.std.proofs.Common.{refl, ap, ◌∙◌, subst, ap₂, le_of_eq, arith, length-drop, take-append-drop, length-take-le, take_all, take-add}
+use Rattle.std.proofs.Common.{eq-eqb, eqb-true}
+use mathlib.Core.Bool.{and-eq-true_iff}
+use mathlib.Core.List.{map-append}
+use lib.ListN.{length-map}
 use lib.Arith.{digits_lt, digits_div}
-use borrow.Author.Tests.{eqb-true, eq-eqb}
 use Rattle.std.specs.Prelude.{Ok}
 use Rattle.model.specs.Results.{refused_with}
-use Rattle.model.specs.Codes.{is_digit, is_letter, is_letter_or_digit, is_code, value, number, key_of, parse, digits, spelling, has_code, print, text_below}
+use Rattle.model.specs.Codes.{is_digit, is_letter, is_letter_or_digit, is_code, value, number, key_of, parse, digits, spelling, has_code}
+use Rattle.model.specs.Codes.{print, text_below}
 use Rattle.model.specs.Lists.{all}
 use Rattle.list_laws.proofs.Tools.{all-append}
 use Rattle.isrc.proofs.Digits.{Below, number-bound, read_on-number, digits-read_on, digits-number, number-below, readings-below}
@@ -40,7 +37,8 @@ pub code : (text : List ℕ) → is_code text ≡ true → Code text
 unfolding is_code
 code text e =
     let t =
-    (and-eq-true_iff (eqb (length text) 12 && all is_letter (take 2 text) && all is_letter_or_digit (take 3 (drop 2 text))) (all is_digit (drop 5 text))).0 e in
+    (and-eq-true_iff (eqb (length text) 12 && all is_letter (take 2 text) && all is_letter_or_digit (take 3 (drop 2 text)))
+    (all is_digit (drop 5 text))).0 e in
     let u = (and-eq-true_iff (eqb (length text) 12 && all is_letter (take 2 text)) (all is_letter_or_digit (take 3 (drop 2 text)))).0 t.0 in
     let v = (and-eq-true_iff (eqb (length text) 12) (all is_letter (take 2 text))).0 u.0 in
     let l = every-imply is_letter is_letter_or_digit letter-is (take 2 text) v.1 in
@@ -112,7 +110,8 @@ module _ (a b : List ℕ) (c : Code a) (d : Code b) where
       let t = number-below 10 (low a) (low b) (low-below a c) (low-below b d) (length-low a c ∙ sym (length-low b d)) in
       values-order a b (all-counted a c) (all-counted b d)
       ∙ ap₂ text_below (values a c) (values b d)
-      ∙ readings-below 36 10000000 (number 10 (low a)) (number 10 (low b)) (high a) (high b) (low a) (low b) (high-below a c) (high-below b d)
+      ∙ readings-below 36 10000000 (number 10 (low a)) (number 10 (low b)) (high a) (high b) (low a) (low b)
+      (high-below a c) (high-below b d)
       (length-high a c ∙ sym (length-high b d)) (low-bound a c) (low-bound b d) t
 
 -- ---- what reading and printing come to
@@ -121,6 +120,7 @@ pub parse-code : (text : List ℕ) → is_code text ≡ true → parse text ≡ 
 unfolding parse
 parse-code text e = rw e
 
+-- a text that is no code is refused with 1
 pub parse-other : (text : List ℕ) → is_code text ≡ false → parse text ≡ refused_with 1
 unfolding parse
 parse-other text e = rw e

@@ -1,16 +1,10 @@
 -- Digits in any base: the number that they read as, the digits of a number, and their order.
-use mathlib.Core.Path.{◌≡◌, refl, sym, ap, ap₂, ◌∙◌}
-use mathlib.Core.Bool.{◌&&◌, ◌||◌}
-use mathlib.Core.List.{List, [], ◌∷◌, ◌++◌, append-nil}
-use Prim.Native.Nat.{ℕ, zero, suc, ◌+◌, ◌*◌, ◌/◌, ◌%◌, ◌^◌, ◌≤◌, ◌<◌}
-use native.Mathlib.Nat.{add-mul, mul_assoc, add_assoc, zero-add, zero-mul, mul-one, mul-le-mul_left, pow-zero, pow-suc, pow-succ', one-le-pow, mod-lt, mod-one, add-zero}
-use native.Mathlib.Numerals.{add-one}
+use Rattle.std.proofs.Common.{◌≡◌, ℕ, zero, suc, ◌+◌, ◌*◌, ◌/◌, ◌%◌, ◌^◌, ◌<◌, ◌≤◌, ◌&&◌, ◌||◌, eqb, ltb, List, [], ◌∷◌, ◌++◌, length, sym}
+use Rattle.std.proofs.Common.{refl, ap, ◌∙◌, ap₂, append-nil, add-zero, add_assoc, mod-lt, mul_assoc, add-mul, mul-le-mul_left, pow-suc}
+use Rattle.std.proofs.Common.{zero-add, zero-mul, mul-one, add-one, arith, length-append, le-ltb, lt-ltb, eq-eqb, ne_eqb}
+use native.Mathlib.Nat.{pow-zero, pow-succ', one-le-pow, mod-one}
 use native.Mathlib.Decide.{dec_lt}
-use native.Mathlib.Omega.{arith}
-use lib.Dec.{ltb, eqb}
-use lib.ListN.{length, length-append}
 use lib.Arith.{digits_lt, digits_div, digits_mod, mod-mul}
-use borrow.Author.Tests.{lt-ltb, le-ltb, eq-eqb, ne_eqb}
 use Rattle.model.specs.Codes.{read_on, number, digits, text_below}
 
 -- all digits below the base
@@ -32,8 +26,10 @@ read_on-append b n (x ∷ xs) ys = read_on-append b (n * b + x) xs ys
 pub read_on-number : (b n : ℕ) (ds : List ℕ) → read_on b n ds ≡ n * b ^ length ds + number b ds
 unfolding read_on number
 read_on-number b n [] = sym (rw (pow-zero, mul-one, add-zero))
-read_on-number b n (d ∷ ds) = simp (read_on-number b (n * b + d) ds, read_on-number b d ds, pow-succ', add-mul, mul_assoc, zero-mul, zero-add, add_assoc)
+read_on-number b n (d ∷ ds) =
+    simp (read_on-number b (n * b + d) ds, read_on-number b d ds, pow-succ', add-mul, mul_assoc, zero-mul, zero-add, add_assoc)
 
+-- no digits are the number 0
 pub number-nil : (b : ℕ) → number b [] ≡ 0
 unfolding read_on number
 number-nil b = refl
@@ -42,6 +38,7 @@ pub number-cons : (b d : ℕ) (ds : List ℕ) → number b (d ∷ ds) ≡ d * b 
 unfolding read_on number
 number-cons b d ds = ap (λ (n : ℕ). read_on b n ds) (rw (zero-mul, zero-add)) ∙ read_on-number b d ds
 
+-- a digit d more at the end makes a number b times as large, plus d
 pub number-snoc : (b : ℕ) (ds : List ℕ) (d : ℕ) → number b (ds ++ (d ∷ [])) ≡ number b ds * b + d
 unfolding read_on number
 number-snoc b ds d = read_on-append b 0 ds (d ∷ [])
@@ -92,8 +89,10 @@ number-digits b (suc n) x h =
 -- Digits read and written again come back, whatever stands above them.
 pub digits-read_on : (b n : ℕ) (ds : List ℕ) → 0 < b → Below b ds → digits b (length ds) (read_on b n ds) ≡ ds
 digits-read_on b n ds h s =
-    number-injective b (digits b (length ds) (read_on b n ds)) ds (digits-below b (length ds) (read_on b n ds) h) s (length-digits b (length ds) (read_on b n ds))
-    (number-digits b (length ds) (read_on b n ds) h ∙ ap (λ (k : ℕ). k % b ^ length ds) (read_on-number b n ds) ∙ digits_mod n (number-bound b ds s))
+    number-injective b (digits b (length ds) (read_on b n ds)) ds (digits-below b (length ds) (read_on b n ds) h) s
+    (length-digits b (length ds) (read_on b n ds))
+    (number-digits b (length ds) (read_on b n ds) h ∙ ap (λ (k : ℕ). k % b ^ length ds) (read_on-number b n ds)
+    ∙ digits_mod n (number-bound b ds s))
 
 pub digits-number : (b n : ℕ) (ds : List ℕ) → 0 < b → Below b ds → length ds ≡ n → digits b n (number b ds) ≡ ds
 unfolding number
@@ -135,10 +134,12 @@ readings-below b m q s (x ∷ xs) (y ∷ ys) us vs hx hy l hq hs e =
     readings-below b m q s xs ys us vs hx.1 hy.1 n hq hs e in
     let p : number b xs * m + q < b ^ length ys * m = digits_lt (rw n at (number-bound b xs hx.1)) hq in
     let r : number b ys * m + s < b ^ length ys * m = digits_lt (number-bound b ys hy.1) hs in
-    rw t (pairs-below (b ^ length ys * m) x (number b xs * m + q) y (number b ys * m + s) p r ∙ simp (number-cons, n, add-mul, mul_assoc, add_assoc))
+    rw t (pairs-below (b ^ length ys * m) x (number b xs * m + q) y (number b ys * m + s) p r
+    ∙ simp (number-cons, n, add-mul, mul_assoc, add_assoc))
 
 -- Digits of one length: those that read lower come first.
-pub number-below : (b : ℕ) (xs ys : List ℕ) → Below b xs → Below b ys → length xs ≡ length ys → text_below xs ys ≡ ltb (number b xs) (number b ys)
+pub number-below : (b : ℕ) (xs ys : List ℕ) → Below b xs → Below b ys → length xs ≡ length ys → text_below xs ys
+    ≡ ltb (number b xs) (number b ys)
 unfolding text_below
 number-below b xs ys hx hy l =
     simp (append-nil, mul-one, add-zero) at (readings-below b 1 0 0 xs ys [] [] hx hy l (omega arith) (omega arith) refl)

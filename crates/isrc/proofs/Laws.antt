@@ -1,10 +1,5 @@
 -- The laws of codes and keys, over all of them.
-use mathlib.Core.Path.{◌≡◌, sym, ap, ◌∙◌}
-use mathlib.Core.Bool.{true}
-use mathlib.Core.Logic.{◌↔◌}
-use mathlib.Core.List.{List}
-use Prim.Native.Nat.{ℕ, ◌<◌}
-use borrow.Author.Tests.{ltb-true, lt-ltb}
+use Rattle.std.proofs.Common.{◌≡◌, ℕ, ◌<◌, true, ◌↔◌, List, sym, ap, ◌∙◌, ltb-true, lt-ltb}
 use Rattle.std.specs.Prelude.{Ok}
 use Rattle.model.specs.Codes.{is_code, key_of, parse, spelling, has_code, print, characters_of, text_below}
 use Rattle.isrc.proofs.Codes.{code, spelling-key, codes-order, parse-code, parsed, spelled, key-has-code, print-code}

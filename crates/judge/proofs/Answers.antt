@@ -1,14 +1,8 @@
 -- The tests in their order, and what the answers say of the call.
-use mathlib.Core.Path.{◌≡◌, refl, ap, sym, ◌∙◌}
-use mathlib.Core.Bool.{Bool, true, false, cond, not, false≢true}
-use mathlib.Core.Logic.{◌≢◌}
-use mathlib.Core.List.{[], ◌∷◌}
+use Rattle.std.proofs.Common.{◌≡◌, ℕ, zero, suc, ◌/◌, Bool, true, false, cond, not, eqb, ◌≢◌, [], ◌∷◌, length, take, sym, refl, ap, ◌∙◌}
+use Rattle.std.proofs.Common.{arith, eq-eqb, ne_eqb, eqb-true}
+use mathlib.Core.Bool.{false≢true}
 use mathlib.Core.Option.{none, some}
-use Prim.Native.Nat.{ℕ, zero, suc, ◌/◌}
-use native.Mathlib.Omega.{arith}
-use lib.Dec.{eqb}
-use borrow.Author.Tests.{eq-eqb, ne_eqb, eqb-true}
-use lib.ListN.{length, take}
 use Rattle.std.specs.Prelude.{Option, None, Some, Result, Ok, Err, ok_or}
 use Rattle.model.specs.declared.Refusal.{Refusal}
 use Rattle.model.specs.declared.Refusal.TheVariants.{NotSound}
@@ -121,11 +115,15 @@ pub record Before21 (n : ℕ) (t list : Words) (out : ℕ) (m : Start) : Type 0 
   pub root : m.root ≡ at t (root_word n)
   pub reached : m.reached ≡ length (reached_all t)
 
-pub passed-tests : {n : ℕ} {t list : Words} {out : ℕ} {r : Result Start Refusal} {m : Start} → r ≡ tested n t list out → r ≡ Ok m → Before21 n t list out m
+pub passed-tests : {n : ℕ} {t list : Words} {out : ℕ} {r : Result Start Refusal} {m : Start} → r ≡ tested n t list out → r ≡ Ok m
+    → Before21 n t list out m
 unfolding tested
 passed-tests {n = n} {t = t} {list = list} {out = out} q e =
     let u = done-ok (first_number (first_tests (no_collection n t) t list out)) (start_of n t) (sym q ∙ e) in
-    let h = (none-holds (first_tests (no_collection n t) t list out) ((λ e. omega arith), ((λ e. omega arith), ((λ e. omega arith), ((λ e. omega arith), ((λ e. omega arith), ((λ e. omega arith), tt))))))).0 u.0 in
+    let h = (none-holds (first_tests (no_collection n t) t list out) (
+      (λ e. omega arith),
+      ((λ e. omega arith), ((λ e. omega arith), ((λ e. omega arith), ((λ e. omega arith), ((λ e. omega arith), tt))))),
+    )).0 u.0 in
     record {
       settles = (not-false-iff _).0 h.1.1.1.0;
       collection = h.1.0;
@@ -148,7 +146,8 @@ module _ (x : Call) (n : ℕ) (t list out : Words) (same : seventeen_in x t ≡ 
   refused zero e z = absurd (z refl)
   refused (suc m) e z = (rw e, rw e)
 
-  pub refused-before : {r : Refusal} → tested n t list (length out) ≡ Err r → (Err r ≡ judge x t list (length out)) × (out ≡ judge_out x t list out)
+  pub refused-before :
+      {r : Refusal} → tested n t list (length out) ≡ Err r → (Err r ≡ judge x t list (length out)) × (out ≡ judge_out x t list out)
   unfolding tested judge_number
   refused-before {r} e = (sym u.1 ∙ both.0, both.1)
     where
@@ -159,7 +158,8 @@ module _ (x : Call) (n : ℕ) (t list out : Words) (same : seventeen_in x t ≡ 
       u = done-err k (start_of n t) e
 
       both : Answers (refused_with k) out
-      both = refused k (rw same (first-shared (first_tests (no_collection n t) t list (length out)) (test (not (eqb (refusal x 2560 0 t) 0)) 21 ∷ []) u.0)) u.0
+      both = refused k (rw same
+          (first-shared (first_tests (no_collection n t) t list (length out)) (test (not (eqb (refusal x 2560 0 t) 0)) 21 ∷ []) u.0)) u.0
 
   module _ (m : Start) (b : Before21 n t list (length out) m) where
     pub refused-change : refusal x 2560 0 t ≢ 0 → (refused_with 21 ≡ judge x t list (length out)) × (out ≡ judge_out x t list out)
@@ -169,10 +169,13 @@ module _ (x : Call) (n : ℕ) (t list out : Words) (same : seventeen_in x t ≡ 
         let w = eq-eqb _ 0 ((whole-inside t list (sound-head t s)).1 b.inside) in
         refused 21 (rw (sound-head t s, same ∙ b.collection, s, b.settles, w, eq-eqb _ _ b.long, ne_eqb _ 0 z)) (λ y. omega (arith, y))
 
-    pub judged-change : refusal x 2560 0 t ≡ 0 → (c : Change) → wanted c t ≡ change x (maps_of t) → (r : Verdict) → r ≡ judged_from (maps_of t) (wanted c t) (decode list) 0 none t
-        → (u : Words) → u ≡ carry (take (count_of r (length list / 2)) (decode list)) t → (r ≡ judge x t list (length out)) × (u ≡ judge_out x t list out)
+    pub judged-change : refusal x 2560 0 t ≡ 0 → (c : Change) → wanted c t ≡ change x (maps_of t) → (r : Verdict) → r
+        ≡ judged_from (maps_of t) (wanted c t) (decode list) 0 none t
+        → (u : Words) → u ≡ carry (take (count_of r (length list / 2)) (decode list)) t → (r ≡ judge x t list (length out))
+        × (u ≡ judge_out x t list out)
     unfolding judged
     judged-change a c e r p u q =
-        let j : Judgeable x t list (length out) = record { collection = same ∙ b.collection; settles = b.settles; inside = b.inside; long = b.long; accepted = a } in
+        let j : Judgeable x t list (length out) =
+        record { collection = same ∙ b.collection; settles = b.settles; inside = b.inside; long = b.long; accepted = a } in
         let d : r ≡ judged x t (decode list) = rw e at p in
         (d ∙ sym (judge-judged x t list (length out) j), (rw d at q) ∙ sym (judge-out x t list out j))

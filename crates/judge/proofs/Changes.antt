@@ -1,10 +1,6 @@
 -- The insertion or deletion that is wanted: whether it would be refused, and its new maps, on a table that passed the tests before.
-use mathlib.Core.Path.{◌≡◌, refl, ap, sym, ◌∙◌}
-use mathlib.Core.Bool.{Bool, true, false, false≢true}
-use mathlib.Core.Logic.{◌≢◌}
-use Prim.Native.Nat.{ℕ, zero, suc, ◌≤◌, ◌<◌}
-use native.Mathlib.Omega.{arith}
-use lib.ListN.{length}
+use Rattle.std.proofs.Common.{◌≡◌, ℕ, zero, suc, ◌<◌, ◌≤◌, Bool, true, false, ◌≢◌, length, sym, refl, ap, ◌∙◌, arith}
+use mathlib.Core.Bool.{false≢true}
 use Rattle.std.specs.Prelude.{is_err, Option as Known, Some, None}
 use Rattle.model.specs.Results.{Outcome, passed}
 use Rattle.model.specs.Table.{Words, at, root_word}
@@ -43,16 +39,23 @@ settled-with t m s e =
       reached-are = e;
     }
 
-pub suits : {n : ℕ} {t list : Words} {out : ℕ} {m : Start} → Before21 n t list out m → (k : ℕ) (x : Known ℕ) → Suits (record { collection = n; key = k; pointer = x }) t
+pub suits : {n : ℕ} {t list : Words} {out : ℕ} {m : Start} → Before21 n t list out m → (k : ℕ) (x : Known ℕ)
+    → Suits (record { collection = n; key = k; pointer = x }) t
 suits b k x = record { settles = b.settles; collection = b.collection }
 
 -- ---- an insertion
 
 module _ (n k r c : ℕ) (t list : Words) (out : ℕ) (m : Start) (b : Before21 n t list out m) where
   ready : Passed (insertion n k r c) 2560 0 t left.Nothing m.reached
-  ready = record { found = settled-with t m.reached b.settles b.reached; collection = b.collection; dock-ok = omega arith; long = omega arith }
+  ready = record {
+    found = settled-with t m.reached b.settles b.reached;
+    collection = b.collection;
+    dock-ok = omega arith;
+    long = omega arith;
+  }
 
-  module _ (root : ℕ) (run : Run) {j : Outcome} (e : root ≡ at t (root_word n)) (q : run ≡ full_run (view_from t root) k None) (d : j ≡ passed (number_for n t k r c run)) where
+  module _ (root : ℕ) (run : Run) {j : Outcome} (e : root ≡ at t (root_word n)) (q : run ≡ full_run (view_from t root) k None)
+      (d : j ≡ passed (number_for n t k r c run)) where
     judged-as : is_err (passed (refusal (insertion n k r c) 2560 0 t)) ≡ is_err j
     judged-as = ap is_err (insert-number ready (run-later ready refl e q) d)
 
@@ -76,15 +79,23 @@ module _ (n k r c : ℕ) (t list : Words) (out : ℕ) (m : Start) (b : Before21 
     no-key : has_key k (map_of n t) ≡ false
     no-key = rw (map-later n t (settled-sound t b.settles) b.collection) at allowed.allows.no-key
 
-    pub insert-wanted : (x : ℕ) → x ≡ pointer_of r c → wanted (record { collection = n; key = k; pointer = Some x }) t ≡ change (insertion n k r c) (maps_of t)
+    pub insert-wanted : (x : ℕ) → x ≡ pointer_of r c → wanted (record { collection = n; key = k; pointer = Some x }) t
+        ≡ change (insertion n k r c) (maps_of t)
     unfolding wanted
-    insert-wanted x e = rw e (on-same n t (with_pointer k (Some (pointer_of r c))) (enter k (pointer_of r c)) b.collection (with-enters k (pointer_of r c) (map_of n t) no-key))
+    insert-wanted x e = rw e
+        (on-same n t (with_pointer k (Some (pointer_of r c))) (enter k (pointer_of r c)) b.collection
+        (with-enters k (pointer_of r c) (map_of n t) no-key))
 
 -- ---- a deletion
 
 module _ (n k : ℕ) (t list : Words) (out : ℕ) (m : Start) (b : Before21 n t list out m) where
   gone : Passed (deletion n k) 2560 0 t left.Nothing m.reached
-  gone = record { found = settled-with t m.reached b.settles b.reached; collection = b.collection; dock-ok = omega arith; long = omega arith }
+  gone = record {
+    found = settled-with t m.reached b.settles b.reached;
+    collection = b.collection;
+    dock-ok = omega arith;
+    long = omega arith;
+  }
 
   module _ (root : ℕ) (e : root ≡ at t (root_word n)) (h : Bool) (q : h ≡ has_key k (mapping (view_from t root))) where
     has : h ≡ has_key k (map_of n t)

@@ -1,14 +1,8 @@
 -- The orders one by one: where the first i held, on the image that they leave, what is left comes to the answer.
-use mathlib.Core.Path.{◌≡◌, refl, ap, sym, ◌∙◌}
-use mathlib.Core.Bool.{Bool, true, false, cond, not, ◌&&◌}
-use mathlib.Core.Logic.{inl}
-use mathlib.Core.List.{List, [], ◌∷◌, ◌++◌}
+use Rattle.std.proofs.Common.{◌≡◌, ℕ, zero, suc, ◌+◌, ◌-◌, ◌/◌, ◌<◌, ◌≤◌, Bool, true, false, cond, not, ◌&&◌, List, [], ◌∷◌, ◌++◌, length}
+use Rattle.std.proofs.Common.{take, drop, sym, refl, ap, ◌∙◌, inl, add-one, arith, length-drop, drop_of_length-le}
 use mathlib.Core.Option.{Option, none}
-use Prim.Native.Nat.{ℕ, zero, suc, ◌+◌, ◌-◌, ◌/◌, ◌≤◌, ◌<◌}
-use native.Mathlib.Numerals.{add-one}
-use native.Mathlib.Omega.{arith}
 use Rattle.std.specs.Prelude.{is_some, Option as Known, Some, None, Ok}
-use lib.ListN.{length, take, drop, length-drop, drop_of_length-le}
 use Rattle.model.specs.Results.{Verdict}
 use Rattle.model.specs.Table.{Words, at}
 use Rattle.model.specs.Reached.{Maps, maps_of}
@@ -38,7 +32,8 @@ pub record Going (old new : Maps) (t list u : Words) (line : Known ℕ) (i : ℕ
   pub all-in : all_inside (length t) (decode ws) ≡ true
   pub rest : judged_from old new (decode ws) i (line_of line) u ≡ judged_from old new (decode list) 0 none t
 
-pub going-start : (c : Change) (t list u ws : Words) → Suits c t → u ≡ t → all_inside (length t) (decode list) ≡ true → ws ≡ list → Going (maps_of t) (wanted c t) t list u None 0 ws
+pub going-start : (c : Change) (t list u ws : Words) → Suits c t → u ≡ t → all_inside (length t) (decode list) ≡ true → ws ≡ list
+    → Going (maps_of t) (wanted c t) t list u None 0 ws
 unfolding carry
 going-start c t list u ws b e a q =
     rw (e, q)
@@ -53,7 +48,8 @@ going-start c t list u ws b e a q =
 
 -- one order more among the first ones
 taken-more : {A : Type 0} (i : ℕ) (xs : List A) (x : A) (r : List A) → drop i xs ≡ x ∷ r → take (suc i) xs ≡ take i xs ++ (x ∷ [])
-taken-more {A = A} i [] x r e = absurd (let z : [] ≡ x ∷ r = sym (drop_of_length-le [] {i = i} (omega arith)) ∙ e in let o : ◌≡◌ {A = ℕ} 0 1 = cc in omega arith)
+taken-more {A = A} i [] x r e =
+    absurd (let z : [] ≡ x ∷ r = sym (drop_of_length-le [] {i = i} (omega arith)) ∙ e in let o : ◌≡◌ {A = ℕ} 0 1 = cc in omega arith)
 taken-more zero (y ∷ xs) x r e = ap (λ q. q ∷ []) (cons-same y x xs r e).0
 taken-more (suc i) (y ∷ xs) x r e = ap (λ q. y ∷ q) (taken-more i xs x r e)
 
@@ -61,7 +57,8 @@ left-length : (list : Words) (i : ℕ) → length (drop i (decode list)) ≡ ord
 left-length list i = omega (arith, length-drop i (decode list), decode-length list)
 
 dropped-more : {A : Type 0} (i : ℕ) (xs : List A) (x : A) (r : List A) → drop i xs ≡ x ∷ r → drop (suc i) xs ≡ r
-dropped-more {A = A} i [] x r e = absurd (let z : [] ≡ x ∷ r = sym (drop_of_length-le [] {i = i} (omega arith)) ∙ e in let o : ◌≡◌ {A = ℕ} 0 1 = cc in omega arith)
+dropped-more {A = A} i [] x r e =
+    absurd (let z : [] ≡ x ∷ r = sym (drop_of_length-le [] {i = i} (omega arith)) ∙ e in let o : ◌≡◌ {A = ℕ} 0 1 = cc in omega arith)
 dropped-more zero (y ∷ xs) x r e = (cons-same y x xs r e).1
 dropped-more (suc i) (y ∷ xs) x r e = dropped-more i xs x r e
 
@@ -69,7 +66,8 @@ module _ {old new : Maps} {t list u : Words} {line : Known ℕ} {i : ℕ} {ws : 
   pub going-length : length u ≡ length t
   going-length = ap length g.image ∙ length-carry (take i (decode list)) t
 
-  module _ (pair after : Words) (p : ws ≡ pair ++ after) (two : length pair ≡ 2) (o : Order) (is : o ≡ order_of (at pair 0) (at pair 1)) where
+  module _ (pair after : Words) (p : ws ≡ pair ++ after) (two : length pair ≡ 2) (o : Order)
+      (is : o ≡ order_of (at pair 0) (at pair 1)) where
     pub going-inside : inside (length u) o ≡ true
     going-inside = inside-here ws pair after p two (length t) g.all-in (length u) going-length o is
 
@@ -95,7 +93,8 @@ module _ {old new : Maps} {t list u : Words} {line : Known ℕ} {i : ℕ} {ws : 
 
       -- the count does not hold
       pub going-fails : r ≡ None → Ok (Some (i + 1)) ≡ judged_from old new (decode list) 0 none t
-      going-fails z = ap (λ (n : ℕ). Ok (Some n)) (add-one i) ∙ sym (judged-stops old new o later i (line_of line) u (sym tested ∙ ap is_some z)) ∙ rest-is
+      going-fails z = ap (λ (n : ℕ). Ok (Some n)) (add-one i)
+          ∙ sym (judged-stops old new o later i (line_of line) u (sym tested ∙ ap is_some z)) ∙ rest-is
 
       pub going-failed : u' ≡ carry (take (count_of (Ok (Some (i + 1))) (order_count list)) (decode list)) t
       going-failed = image-more
@@ -111,12 +110,15 @@ module _ {old new : Maps} {t list u : Words} {line : Known ℕ} {i : ℕ} {ws : 
             good = rw e w.1;
             all-in = inside-next ws pair after p two (length t) g.all-in;
             rest =
-                ap (λ (m : ℕ). judged_from old new later m (line_of l) u') (add-one i) ∙ ap (λ (x : Option ℕ). judged_from old new later (suc i) x u') (k.line-is l z)
-                ∙ ap (judged_from old new later (suc i) (unflushed_after (line_of line) o)) e ∙ sym (judged-goes old new o later i (line_of line) u (sym tested ∙ ap is_some z)) ∙ rest-is;
+                ap (λ (m : ℕ). judged_from old new later m (line_of l) u') (add-one i)
+                ∙ ap (λ (x : Option ℕ). judged_from old new later (suc i) x u') (k.line-is l z)
+                ∙ ap (judged_from old new later (suc i) (unflushed_after (line_of line) o)) e
+                ∙ sym (judged-goes old new o later i (line_of line) u (sym tested ∙ ap is_some z)) ∙ rest-is;
           }
 
 -- all orders held
-module _ (c : Change) (t list u : Words) (line : Known ℕ) (i : ℕ) (ws : Words) (b : Suits c t) (g : Going (maps_of t) (wanted c t) t list u line i ws) (h : length ws < 2)
+module _ (c : Change) (t list u : Words) (line : Known ℕ) (i : ℕ) (ws : Words) (b : Suits c t)
+    (g : Going (maps_of t) (wanted c t) t list u line i ws) (h : length ws < 2)
     (r : Verdict) (e : r ≡ ended (line_of line) u c (order_count list)) where
   all : i ≡ order_count list
   all = omega (arith, g.up-to, ap length (g.place ∙ no-order ws h), left-length list i)
@@ -131,7 +133,9 @@ module _ (c : Change) (t list u : Words) (line : Known ℕ) (i : ℕ) (ws : Word
       ∙ ap (λ (os : List Order). judged_from (maps_of t) (wanted c t) os i (line_of line) u) (sym (no-order ws h)) ∙ g.rest
 
   pub going-ended : u ≡ carry (take (count_of r (order_count list)) (decode list)) t
-  going-ended = g.image ∙ ap (λ (n : ℕ). carry (take n (decode list)) t) (all ∙ sym (ap (λ (x : Verdict). count_of x (order_count list)) answer-is ∙ counted (completes (wanted c t) (line_of line) u)))
+  going-ended = g.image
+      ∙ ap (λ (n : ℕ). carry (take n (decode list)) t)
+      (all ∙ sym (ap (λ (x : Verdict). count_of x (order_count list)) answer-is ∙ counted (completes (wanted c t) (line_of line) u)))
     where
       counted : (b : Bool) → count_of (cond b (Ok None) (Ok (Some (order_count list)))) (order_count list) ≡ order_count list
       counted true = refl

@@ -1,11 +1,8 @@
 -- An image by its two trees: sound, each map the old one or, in the collection that is to change, the new one.
-use mathlib.Core.Path.{◌≡◌, refl, ap, sym, ◌∙◌}
-use mathlib.Core.Bool.{Bool, true, false, cond, not, ◌&&◌, ◌||◌, beq, false≢true}
-use mathlib.Core.List.{List}
+use Rattle.std.proofs.Common.{◌≡◌, ℕ, Bool, true, false, cond, not, ◌&&◌, ◌||◌, eqb, List, sym, refl, ap, ◌∙◌, eq-eqb, ne_eqb, eqb-true}
+use mathlib.Core.Bool.{beq, false≢true}
 use mathlib.Core.Option.{none, map}
-use Prim.Native.Nat.{ℕ}
-use lib.Dec.{eqb}
-use borrow.Author.Tests.{eqb-true, eqb-false, eq-eqb, ne_eqb}
+use borrow.Author.Tests.{eqb-false}
 use Rattle.model.specs.Table.{Words, at}
 use Rattle.model.specs.Slots.{Slot, view_from}
 use Rattle.model.specs.Reached.{mapping, map_of, Maps, maps_of, unless_lacking}
@@ -52,7 +49,8 @@ by-parts true f a m = refl
 by-parts false f a m = refl
 
 -- an image without a second collection
-lacking : (o b : Bool) (f : List Slot → List Slot) (m : List Slot) → same_second none (unless_lacking b m) || (o && same_second none (map f (unless_lacking b m))) ≡ b
+lacking : (o b : Bool) (f : List Slot → List Slot) (m : List Slot)
+    → same_second none (unless_lacking b m) || (o && same_second none (map f (unless_lacking b m))) ≡ b
 lacking o true f m = refl
 lacking true false f m = refl
 lacking false false f m = refl
@@ -87,7 +85,8 @@ module _ (c : Change) (t u : Words) where
     second-is v b e = rw e
 
     -- the first trees by the roots that were read
-    module _ {top root : ℕ} (i : top ≡ at u 1) (j : root ≡ at t 1) {x : Bool} (d : x ≡ old_or_new own c.key c.pointer (mapping (view_from t root)) (mapping (view_from u top))) where
+    module _ {top root : ℕ} (i : top ≡ at u 1) (j : root ≡ at t 1) {x : Bool}
+        (d : x ≡ old_or_new own c.key c.pointer (mapping (view_from t root)) (mapping (view_from u top))) where
       e : x ≡ old_or_new own c.key c.pointer (map_of 1 t) (map_of 1 u)
       e = rw (i, j) at d
 
@@ -122,25 +121,33 @@ module _ (c : Change) (t u : Words) where
 
         lacks-second : {a b : ℕ} → a ≡ at u 3 → b ≡ at t 3 → a ≡ 0 → eqb b 0 ≡ good_image (maps_of t) (wanted c t) u
         lacks-second p q z =
-            sym (good-rest ∙ rw (second-is u true (eq-eqb (at u 3) 0 (sym p ∙ z)), second-is t (eqb (at t 3) 0) refl, q) (lacking (not own) (eqb (at t 3) 0) f (map_of 2 t)))
+            sym (good-rest ∙ rw (second-is u true (eq-eqb (at u 3) 0 (sym p ∙ z)), second-is t (eqb (at t 3) 0) refl, q)
+            (lacking (not own) (eqb (at t 3) 0) f (map_of 2 t)))
 
         none-wanted : {a b : ℕ} → a ≡ at u 3 → b ≡ at t 3 → (a ≡ 0 → ⊥) → b ≡ 0 → false ≡ good_image (maps_of t) (wanted c t) u
         none-wanted p q z w =
-            sym (good-rest ∙ rw (second-is u false (ne_eqb (at u 3) 0 (λ y. z (p ∙ y))), second-is t true (eq-eqb (at t 3) 0 (sym q ∙ w))) (none-for (not own)))
+            sym (good-rest ∙ rw (second-is u false (ne_eqb (at u 3) 0 (λ y. z (p ∙ y))), second-is t true (eq-eqb (at t 3) 0 (sym q ∙ w)))
+            (none-for (not own)))
           where
             none-for : (o : Bool) → false || (o && false) ≡ false
             none-for true = refl
             none-for false = refl
 
         second-judged : {a b : ℕ} → a ≡ at u 3 → b ≡ at t 3 → (a ≡ 0 → ⊥) → (b ≡ 0 → ⊥) → {r : Bool}
-            → r ≡ old_or_new (not own) c.key c.pointer (mapping (view_from t b)) (mapping (view_from u a)) → r ≡ good_image (maps_of t) (wanted c t) u
+            → r ≡ old_or_new (not own) c.key c.pointer (mapping (view_from t b)) (mapping (view_from u a)) → r
+            ≡ good_image (maps_of t) (wanted c t) u
         unfolding old_or_new
         second-judged p q z w g =
-            rw (p, q) at g ∙ sym (good-rest ∙ rw (second-is u false (ne_eqb (at u 3) 0 (λ y. z (p ∙ y))), second-is t false (ne_eqb (at t 3) 0 (λ y. w (q ∙ y)))))
+            rw (p, q) at g ∙ sym
+            (good-rest ∙ rw (
+              second-is u false (ne_eqb (at u 3) 0 (λ y. z (p ∙ y))),
+              second-is t false (ne_eqb (at t 3) 0 (λ y. w (q ∙ y))),
+            ))
 
   -- the tests in a row: v is what the first two come to, w what they come to with whether both have a second tree, or neither
   module _ {top root a b : ℕ} (i : top ≡ at u 1) (j : root ≡ at t 1) (p : a ≡ at u 3) (q : b ≡ at t 3) (v w : Bool)
-      (e : v ≡ (sound u && old_or_new own c.key c.pointer (mapping (view_from t root)) (mapping (view_from u top)))) (g : w ≡ (v && beq (eqb a 0) (eqb b 0))) where
+      (e : v ≡ (sound u && old_or_new own c.key c.pointer (mapping (view_from t root)) (mapping (view_from u top))))
+      (g : w ≡ (v && beq (eqb a 0) (eqb b 0))) where
     abbrev first : Bool
     first = old_or_new own c.key c.pointer (mapping (view_from t root)) (mapping (view_from u top))
 
@@ -168,6 +175,7 @@ module _ (c : Change) (t u : Words) where
     pub both-have : w ≡ true → (a ≡ 0 → ⊥) → b ≡ 0 → ⊥
     both-have h z y = z (eqb-true a 0 ((passed h).1.1 ∙ eq-eqb b 0 y))
 
-    pub both-judged : (h : w ≡ true) → (z : a ≡ 0 → ⊥) → {r : Bool} → r ≡ old_or_new (not own) c.key c.pointer (mapping (view_from t b)) (mapping (view_from u a))
+    pub both-judged : (h : w ≡ true) → (z : a ≡ 0 → ⊥) → {r : Bool} → r
+        ≡ old_or_new (not own) c.key c.pointer (mapping (view_from t b)) (mapping (view_from u a))
         → r ≡ good_image (maps_of t) (wanted c t) u
     both-judged h z d = let r = passed h in second-judged r.0 i j refl r.1.0 p q z (both-have h z) d

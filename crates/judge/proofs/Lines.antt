@@ -1,9 +1,6 @@
 -- What one order comes to.
-use mathlib.Core.Path.{◌≡◌, refl, sym, ◌∙◌}
-use mathlib.Core.Bool.{true, false}
-use mathlib.Core.List.{[], ◌∷◌}
+use Rattle.std.proofs.Common.{◌≡◌, ℕ, true, false, [], ◌∷◌, sym, refl, ◌∙◌}
 use mathlib.Core.Option.{Option, none, some}
-use Prim.Native.Nat.{ℕ}
 use Rattle.std.specs.Prelude.{Option as Known, Some}
 use Rattle.model.specs.Table.{Words}
 use Rattle.model.specs.Reached.{Maps}
@@ -13,7 +10,8 @@ use Rattle.judge.specs.Wanted.{line_of, Holds}
 
 -- ---- one order more
 
-module _ (old new : Maps) (l : Option ℕ) (o : Order) (u : Words) (g : good_image old new u ≡ true) (u' : Words) (c : u' ≡ carry (o ∷ []) u) where
+module _ (old new : Maps) (l : Option ℕ) (o : Order) (u : Words) (g : good_image old new u ≡ true) (u' : Words)
+    (c : u' ≡ carry (o ∷ []) u) where
   -- a flush or a barrier leaves the image
   same-flush : (k : ℕ) → o ≡ flush k → u' ≡ u
   unfolding carry

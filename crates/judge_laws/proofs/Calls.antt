@@ -1,12 +1,7 @@
 -- The call: what its refusals say, what the second slice ends as, and that it accepts the words of our lists.
-use mathlib.Core.Path.{◌≡◌, refl, sym, ap, ◌∙◌}
-use mathlib.Core.Bool.{Bool, true, false, cond, false≢true}
-use mathlib.Core.Logic.{◌↔◌}
-use mathlib.Core.List.{List}
-use Prim.Native.Nat.{ℕ, suc, ◌*◌, ◌/◌, ◌≤◌}
-use native.Mathlib.Omega.{arith}
-use borrow.Author.Tests.{eqb-true, eq-eqb, le-leb}
-use lib.ListN.{length, take}
+use Rattle.std.proofs.Common.{◌≡◌, ℕ, suc, ◌*◌, ◌/◌, ◌≤◌, Bool, true, false, cond, ◌↔◌, List, length, take, sym, refl, ap, ◌∙◌, arith}
+use Rattle.std.proofs.Common.{eq-eqb, eqb-true, le-leb}
+use mathlib.Core.Bool.{false≢true}
 use Rattle.std.specs.Prelude.{Ok, Err, Some, None}
 use Rattle.model.specs.Results.{Verdict, refused_with}
 use Rattle.model.specs.Table.{Words, header_ok}
@@ -30,7 +25,8 @@ use Rattle.judge_laws.proofs.Ours.{ours-accepted}
 
 -- ---- the refusals
 
--- Not refused: the header is right, the collection there, the table settled, each order inside it, the second slice as long, and the change itself
+-- Not refused: the header is right, the collection there, the table settled, each order inside it, the second slice as long, and the change
+-- itself
 -- would be accepted.
 pub record Judgeable (x : Call) (t list : Words) (out : ℕ) : Type 0 where
   pub collection : seventeen_in x t ≡ false
@@ -40,9 +36,11 @@ pub record Judgeable (x : Call) (t list : Words) (out : ℕ) : Type 0 where
   pub accepted : refusal x 2560 0 t ≡ 0
 
 -- 13 over the whole list
-pub whole-inside : (t list : Words) → header_ok t ≡ true → (carry_number (length list / 2) list t ≡ 0) ↔ (all_inside (length t) (decode list) ≡ true)
+pub whole-inside : (t list : Words) → header_ok t ≡ true
+    → (carry_number (length list / 2) list t ≡ 0) ↔ (all_inside (length t) (decode list) ≡ true)
 unfolding carry_number
-whole-inside t list h = rw (h, le-leb (length list / 2) (length list / 2) (omega arith), all-orders list) (passes (all_inside (length t) (decode list)))
+whole-inside t list h =
+    rw (h, le-leb (length list / 2) (length list / 2) (omega arith), all-orders list) (passes (all_inside (length t) (decode list)))
   where
     passes : (b : Bool) → ◌≡◌ {A = ℕ} (cond b 0 13) 0 ↔ (b ≡ true)
     passes true = (λ e. refl, λ e. refl)
@@ -51,7 +49,13 @@ whole-inside t list h = rw (h, le-leb (length list / 2) (length list / 2) (omega
 pub judgeable-iff : (x : Call) (t list : Words) (out : ℕ) → (judge_number x t list out ≡ 0) ↔ Judgeable x t list out
 unfolding judge_number
 judgeable-iff x t list out =
-    let i = none-holds (judge_tests x t list out) ((λ e. omega arith), ((λ e. omega arith), ((λ e. omega arith), ((λ e. omega arith), ((λ e. omega arith), ((λ e. omega arith), ((λ e. omega arith), tt))))))) in (
+    let i = none-holds (judge_tests x t list out) (
+      (λ e. omega arith),
+      (
+        (λ e. omega arith),
+        ((λ e. omega arith), ((λ e. omega arith), ((λ e. omega arith), ((λ e. omega arith), ((λ e. omega arith), tt))))),
+      ),
+    ) in (
       λ e. let h = i.0 e in
           record {
             collection = h.1.0;
@@ -88,6 +92,7 @@ judge-refused x t list out n e = (rw e refl, rw e refl)
 -- ---- the answer and the second slice
 
 module _ (x : Call) (t list : Words) (out : ℕ) (j : Judgeable x t list out) where
+  -- a call that is not refused answers the verdict on the list's orders
   pub judge-judged : judge x t list out ≡ judged x t (decode list)
   unfolding judge
   judge-judged = rw ((judgeable-iff x t list out).1 j)
@@ -100,7 +105,8 @@ module _ (x : Call) (t list : Words) (out : ℕ) (j : Judgeable x t list out) wh
   judge-iff r = rw judge-judged (judged-iff x t (decode list) r j.settles)
 
 -- the first c orders carried out, where all are inside
-pub carried : (c : ℕ) (list t : Words) → header_ok t ≡ true → all_inside (length t) (decode list) ≡ true → c ≤ length list / 2 → carried_out c list t ≡ carry (take c (decode list)) t
+pub carried : (c : ℕ) (list t : Words) → header_ok t ≡ true → all_inside (length t) (decode list) ≡ true → c ≤ length list / 2
+    → carried_out c list t ≡ carry (take c (decode list)) t
 unfolding carried_out carry_number
 carried c list t h a l = rw (h, le-leb c (length list / 2) l, inside-take (length t) c (decode list) a)
 
@@ -116,7 +122,8 @@ module _ (x : Call) (t list out : Words) (j : Judgeable x t list (length out)) w
   judge-out =
       rw ((judgeable-iff x t list (length out)).1 j)
       (carried (count_of (judged x t (decode list)) (length list / 2)) list t (settled-head t j.settles) j.inside
-      (count-within x t (decode list) (judged x t (decode list)) (length list / 2) (sym (decode-length list)) (judged-says x t (decode list) j.settles)))
+      (count-within x t (decode list) (judged x t (decode list)) (length list / 2) (sym (decode-length list))
+      (judged-says x t (decode list) j.settles)))
 
 -- ---- the words of our lists
 
@@ -128,7 +135,8 @@ ours-judged x lent dock t s a =
     let n = orders_answered (written x (length lent) dock t) in
     let ws = take (2 * n) (list_after x lent dock t) in
     let e : decode ws ≡ orders_of x dock t = decode-take n (list_after x lent dock t) ∙ call-read x lent dock t a in
-    let i = orders-inside (length t) (stores_of x t) (header-length t (settled-head t s)).0 (accepted-steps x (length lent) dock t u.sound a).stores-inside in
+    let i = orders-inside (length t) (stores_of x t) (header-length t (settled-head t s)).0
+    (accepted-steps x (length lent) dock t u.sound a).stores-inside in
     let j : Judgeable x t ws (length t) = record {
       collection = u.collection;
       settles = s;

@@ -1,19 +1,17 @@
 -- Maps compared pair by pair.
-use mathlib.Core.Path.{◌≡◌, refl, ap, ◌∙◌}
-use mathlib.Core.Bool.{true, false≢true}
-use mathlib.Core.Logic.{◌↔◌}
-use mathlib.Core.List.{List, [], ◌∷◌}
+use Rattle.std.proofs.Common.{◌≡◌, ℕ, true, ◌↔◌, List, [], ◌∷◌, refl, ap, ◌∙◌, arith}
+use mathlib.Core.Bool.{false≢true}
 use mathlib.Core.Option.{Option, none, some}
-use Prim.Native.Nat.{ℕ}
-use native.Mathlib.Omega.{arith}
 use Rattle.model.specs.Slots.{Slot, slot}
 use Rattle.model.specs.Reached.{Maps}
 use Rattle.list_laws.proofs.Tools.{and-iff, eqb-iff}
 use Rattle.model.specs.Judge.{same_slots, same_second, same_maps}
 
+-- slots with the same key and pointer are the same
 pub slot-same : (p q : Slot) → p.key ≡ q.key → p.pointer ≡ q.pointer → p ≡ q
 slot-same p q a b = ap (λ (k : ℕ). slot k p.pointer) a ∙ ap (slot q.key) b
 
+-- the test of equality passes exactly for equal lists of slots
 pub slots-same : (ps qs : List Slot) → (same_slots ps qs ≡ true) ↔ (ps ≡ qs)
 unfolding same_slots
 slots-same [] [] = (λ e. refl, λ e. refl)
@@ -21,7 +19,8 @@ slots-same [] (q ∷ qs) = (λ e. absurd (false≢true e), λ e. absurd (let z :
 slots-same (p ∷ ps) [] = (λ e. absurd (false≢true e), λ e. absurd (let z : ◌≡◌ {A = ℕ} 0 1 = cc in omega arith))
 slots-same (p ∷ ps) (q ∷ qs) = (
   λ e. let u = simp (and-iff, eqb-iff) at e in let a = slot-same p q u.0 u.1.0 in let b = (slots-same ps qs).0 u.1.1 in cc,
-  λ e. let a : p ≡ q = cc in let b : ps ≡ qs = cc in simp (and-iff, eqb-iff) (ap (λ (s : Slot). s.key) a, (ap (λ (s : Slot). s.pointer) a, (slots-same ps qs).1 b)),
+  λ e. let a : p ≡ q = cc in let b : ps ≡ qs =
+      cc in simp (and-iff, eqb-iff) (ap (λ (s : Slot). s.key) a, (ap (λ (s : Slot). s.pointer) a, (slots-same ps qs).1 b)),
 )
 
 second-same : (a b : Option (List Slot)) → (same_second a b ≡ true) ↔ (a ≡ b)
@@ -30,9 +29,11 @@ second-same none (some qs) = (λ e. absurd (false≢true e), λ e. absurd (let z
 second-same (some ps) none = (λ e. absurd (false≢true e), λ e. absurd (let z : ◌≡◌ {A = ℕ} 0 1 = cc in omega arith))
 second-same (some ps) (some qs) = (λ e. ap some ((slots-same ps qs).0 e), λ e. (slots-same ps qs).1 (let a : ps ≡ qs = cc in a))
 
+-- the maps of a first list and a second one or its lack
 abbrev pub maps_with : List Slot → Option (List Slot) → Maps
 maps_with a b = record { one = a; two = b }
 
+-- the test of equality passes exactly for equal maps
 pub maps-same : (a b : Maps) → (same_maps a b ≡ true) ↔ (a ≡ b)
 unfolding same_maps
 maps-same a b = (

@@ -1,15 +1,13 @@
--- What computes the answer says what is asked, for any list: where every count up to c holds, the images at c are what first parts leave, each of
+-- What computes the answer says what is asked, for any list: where every count up to c holds, the images at c are what first parts leave,
+-- each of
 -- which was looked at.
-use mathlib.Core.Path.{◌≡◌, refl, sym, ap, ◌∙◌}
-use mathlib.Core.Bool.{Bool, true, false, cond, not, ◌&&◌, ◌||◌, false≢true}
-use mathlib.Core.Logic.{◌↔◌, ◌⊎◌, inl, inr, ⊎_map}
-use mathlib.Core.List.{List, [], ◌∷◌, ◌++◌, append-nil, append_assoc}
+use Rattle.std.proofs.Common.{◌≡◌, ℕ, suc, ◌≤◌, Bool, true, false, cond, not, ◌&&◌, ◌||◌, ◌⊎◌, ◌↔◌, List, [], ◌∷◌, ◌++◌, length, take, sym}
+use Rattle.std.proofs.Common.{refl, ap, ◌∙◌, inl, inr, append_assoc, append-nil, arith, length-append, take_all}
+use mathlib.Core.Bool.{false≢true}
+use mathlib.Core.Logic.{⊎_map}
 use mathlib.Core.Option.{Option, none, some}
-use Prim.Native.Nat.{ℕ, suc, ◌≤◌}
-use native.Mathlib.Omega.{arith}
 use native.Mathlib.Decide.{dec_le}
-use lib.ListN.{length, take, length-append}
-use lib.Seq.{take-nil, take_all, take-append-le}
+use lib.Seq.{take-nil, take-append-le}
 use Rattle.std.specs.Prelude.{Ok, Err, Some, None}
 use Rattle.model.specs.Results.{Verdict}
 use Rattle.model.specs.Table.{Words}
@@ -24,12 +22,14 @@ use Rattle.list_laws.proofs.Tools.{and-iff, or-iff, not-iff, compared}
 use Rattle.cut_laws.proofs.Applying.{carry-append}
 use Rattle.cut_laws.proofs.Images.{carry-image, cut-prefix}
 use Rattle.two_laws.proofs.SameTwo.{sound-same, settled-same, settled-sound}
-use Rattle.model.specs.Judge.{OneUnflushed, AllFlushed, OldOrNew, Completes, CountHolds, Says, same_maps, good_image, unflushed_after, second_line, is_none, completes, judged_from, judged}
+use Rattle.model.specs.Judge.{OneUnflushed, AllFlushed, OldOrNew, Completes, CountHolds, Says, same_maps, good_image, unflushed_after}
+use Rattle.model.specs.Judge.{second_line, is_none, completes, judged_from, judged}
 use Rattle.judge_laws.proofs.Compared.{maps-same}
 use Rattle.judge_laws.proofs.Unflushed.{Holding, holding-nil, holding-one, holding-more, second-two}
 
 -- ---- the two tests
 
+-- an image is good exactly if it is sound and its maps are the old or the new ones
 pub good-maps : (old new : Maps) (u : Words) → (good_image old new u ≡ true) ↔ ((sound u ≡ true) × ((maps_of u ≡ old) ⊎ (maps_of u ≡ new)))
 unfolding good_image
 good-maps old new u =
@@ -48,7 +48,8 @@ none-left : (l : Option ℕ) (os : List Order) → Holding l os → (is_none l �
 none-left none os h = (λ e. h, λ a. refl)
 none-left (some l) os h = (λ e. absurd (false≢true e), λ a. absurd (h.0 (a l)))
 
-pub completes-iff : (x : Call) (t : Words) (os : List Order) (l : Option ℕ) (u : Words) → Holding l os → u ≡ carry os t → (completes (change x (maps_of t)) l u ≡ true) ↔ Completes x t os
+pub completes-iff : (x : Call) (t : Words) (os : List Order) (l : Option ℕ) (u : Words) → Holding l os → u ≡ carry os t
+    → (completes (change x (maps_of t)) l u ≡ true) ↔ Completes x t os
 unfolding completes
 completes-iff x t os l u h e =
     let n = none-left l os h in
@@ -67,11 +68,15 @@ first-more (x ∷ a) o b = ap (λ q. x ∷ q) (first-more a o b)
 -- ---- one order more
 
 module _ (old new : Maps) (o : Order) (b : List Order) (c : ℕ) (l : Option ℕ) (u : Words) where
-  pub judged-goes : not (second_line l o) && good_image old new (carry (o ∷ []) u) ≡ true → judged_from old new (o ∷ b) c l u ≡ judged_from old new b (suc c) (unflushed_after l o) (carry (o ∷ []) u)
+  -- after an order that leaves a good image and no second unflushed line, the orders after it are judged
+  pub judged-goes : not (second_line l o) && good_image old new (carry (o ∷ []) u) ≡ true → judged_from old new (o ∷ b) c l u
+      ≡ judged_from old new b (suc c) (unflushed_after l o) (carry (o ∷ []) u)
   unfolding judged_from
   judged-goes e = rw (e, judged_from)
 
-  pub judged-stops : not (second_line l o) && good_image old new (carry (o ∷ []) u) ≡ false → judged_from old new (o ∷ b) c l u ≡ Ok (Some (suc c))
+  -- an order that leaves a bad image or a second unflushed line ends the judgement with its place
+  pub judged-stops : not (second_line l o) && good_image old new (carry (o ∷ []) u) ≡ false
+      → judged_from old new (o ∷ b) c l u ≡ Ok (Some (suc c))
   unfolding judged_from
   judged-stops e = rw (e, judged_from)
 
@@ -103,35 +108,41 @@ module _ (x : Call) (t : Words) where
       }
 
   -- what holds of all first parts of a list and of the list with one order more
-  by-parts : (P : List Order → Type 0) (a : List Order) (o : Order) → ((d : ℕ) → P (take d a)) → P (a ++ (o ∷ [])) → (d : ℕ) → P (take d (a ++ (o ∷ [])))
+  by-parts : (P : List Order → Type 0) (a : List Order) (o : Order) → ((d : ℕ) → P (take d a)) → P (a ++ (o ∷ [])) → (d : ℕ)
+      → P (take d (a ++ (o ∷ [])))
   by-parts P a o f p d = go (dec_le d (length a))
     where
       go : Dec (d ≤ length a) → P (take d (a ++ (o ∷ [])))
       go (yes h) = rw (take-append-le d a (o ∷ []) h) (f d)
       go (no h) = rw (take_all d (a ++ (o ∷ [])) (simp length-append (omega arith))) p
 
-  looked-more : (a : List Order) (l : Option ℕ) (o : Order) → Looked a l → second_line l o ≡ false → good (carry (a ++ (o ∷ [])) t) ≡ true → Looked (a ++ (o ∷ [])) (unflushed_after l o)
+  looked-more : (a : List Order) (l : Option ℕ) (o : Order) → Looked a l → second_line l o ≡ false → good (carry (a ++ (o ∷ [])) t) ≡ true
+      → Looked (a ++ (o ∷ [])) (unflushed_after l o)
   looked-more a l o k e g =
       let h = holding-more l a o k.holding e in
       record {
         holding = h;
         lines = by-parts OneUnflushed a o k.lines (holding-one (unflushed_after l o) (a ++ (o ∷ [])) h);
-        parts = by-parts (λ (b : List Order). Sound (carry b t) × OldOrNew x t (carry b t)) a o k.parts ((good-iff x t (carry (a ++ (o ∷ [])) t)).0 g);
+        parts = by-parts (λ (b : List Order). Sound (carry b t) × OldOrNew x t (carry b t)) a o k.parts
+            ((good-iff x t (carry (a ++ (o ∷ [])) t)).0 g);
       }
 
   -- a count among them holds, but for completing the change
-  looked-holds : (a b : List Order) (l : Option ℕ) → Looked a l → (d : ℕ) → d ≤ length a → (d ≡ length (a ++ b) → Completes x t (a ++ b)) → CountHolds x t (a ++ b) d
+  looked-holds : (a b : List Order) (l : Option ℕ) → Looked a l → (d : ℕ) → d ≤ length a → (d ≡ length (a ++ b) → Completes x t (a ++ b))
+      → CountHolds x t (a ++ b) d
   looked-holds a b l k d h w =
       record {
         one-line = rw (take-append-le d a b h) (k.lines d);
-        images = λ m i. let i : CutImage 0 d t a m = rw (take-append-le d a b h) at i in let (j, q, e) = cut-prefix a t k.lines d m i in rw e (k.parts j);
+        images = λ m i. let i : CutImage 0 d t a m = rw (take-append-le d a b h) at i in let (j, q, e) =
+            cut-prefix a t k.lines d m i in rw e (k.parts j);
         whole = w;
       }
 
   -- ---- the answer from there on
 
   -- all orders were looked at
-  at-end : (a : List Order) (l : Option ℕ) (u : Words) → Looked a l → u ≡ carry a t → Says x t a (cond (completes new l u) (Ok None) (Ok (Some (length a))))
+  at-end : (a : List Order) (l : Option ℕ) (u : Words) → Looked a l → u ≡ carry a t
+      → Says x t a (cond (completes new l u) (Ok None) (Ok (Some (length a))))
   at-end a l u k e = go (completes new l u) refl
     where
       i : (completes new l u ≡ true) ↔ Completes x t a
@@ -163,7 +174,8 @@ module _ (x : Call) (t : Words) where
           let i : CutImage 0 (suc (length a)) t (a ++ (o ∷ b)) u = rw e (rw all (carry-image (a ++ (o ∷ [])) t)) in
           false≢true (sym g ∙ (good-iff x t u).1 (h.images u i))
 
-  from : (b a : List Order) (c : ℕ) (l : Option ℕ) (u : Words) → Looked a l → c ≡ length a → u ≡ carry a t → Says x t (a ++ b) (rest b c l u)
+  from : (b a : List Order) (c : ℕ) (l : Option ℕ) (u : Words) → Looked a l → c ≡ length a → u ≡ carry a t
+      → Says x t (a ++ b) (rest b c l u)
   unfolding judged_from
   from [] a c l u k n e = rw (n, append-nil) (at-end a l u k e)
   from (o ∷ b) a c l u k n e = go (not (second_line l o) && good (carry (o ∷ []) u)) refl (from b (a ++ (o ∷ [])))
@@ -172,12 +184,14 @@ module _ (x : Call) (t : Words) where
       next = rw e (sym (carry-append a (o ∷ []) t))
 
       go : (g : Bool) → not (second_line l o) && good (carry (o ∷ []) u) ≡ g
-          → ((c : ℕ) (l : Option ℕ) (u : Words) → Looked (a ++ (o ∷ [])) l → c ≡ length (a ++ (o ∷ [])) → u ≡ carry (a ++ (o ∷ [])) t → Says x t ((a ++ (o ∷ [])) ++ b) (rest b c l u))
+          → ((c : ℕ) (l : Option ℕ) (u : Words) → Looked (a ++ (o ∷ [])) l → c ≡ length (a ++ (o ∷ [])) → u ≡ carry (a ++ (o ∷ [])) t
+          → Says x t ((a ++ (o ∷ [])) ++ b) (rest b c l u))
           → Says x t (a ++ (o ∷ b)) (rest (o ∷ b) c l u)
       go true q ih =
           let w = (and-iff (not (second_line l o)) (good (carry (o ∷ []) u))).0 q in
           let m = looked-more a l o k ((not-iff (second_line l o)).0 w.0) (rw next at w.1) in
-          rw (judged-goes (maps_of t) new o b c l u q) (rw append_assoc at (ih (suc c) (unflushed_after l o) (carry (o ∷ []) u) m (rw n (simp length-append (omega arith))) next))
+          rw (judged-goes (maps_of t) new o b c l u q)
+          (rw append_assoc at (ih (suc c) (unflushed_after l o) (carry (o ∷ []) u) m (rw n (simp length-append (omega arith))) next))
       go false q ih = rw (judged-stops (maps_of t) new o b c l u q, n) (at-order a o b l (carry (o ∷ []) u) k next q)
 
 -- The answer says what is asked of any list on a settled table.

@@ -1,12 +1,8 @@
 -- The judge's numbers in the request's order, 2, 17, 4, 20, 13, 15, 21: each comes exactly if its condition holds and none before it does.
-use mathlib.Core.Path.{◌≡◌, refl, sym, ◌∙◌}
-use mathlib.Core.Bool.{true, false, not, false≢true}
-use mathlib.Core.Logic.{◌≢◌, ◌↔◌}
-use mathlib.Core.List.{List}
-use Prim.Native.Nat.{ℕ, ◌/◌}
-use lib.Dec.{eqb}
-use lib.ListN.{length, take, drop}
-use borrow.Author.Tests.{eqb-true, eqb-false, eq-eqb, ne_eqb}
+use Rattle.std.proofs.Common.{◌≡◌, ℕ, ◌/◌, true, false, not, eqb, ◌≢◌, ◌↔◌, List, length, take, drop, sym, refl, ◌∙◌, eq-eqb, ne_eqb}
+use Rattle.std.proofs.Common.{eqb-true}
+use mathlib.Core.Bool.{false≢true}
+use borrow.Author.Tests.{eqb-false}
 use Rattle.model.specs.Table.{Words, header_ok}
 use Rattle.model.specs.SoundTest.{elem, sound, settled}
 use Rattle.model.specs.Orders.{decode, all_inside, carry_number}
@@ -52,20 +48,41 @@ module _ (x : Call) (t list : Words) (out : ℕ) where
       record {
         two = (λ e. (not-iff _).0 (n2.0 e).1, λ f. n2.1 (tt, (not-iff _).1 f));
         seventeen = (λ e. let h = n17.0 e in ((not-false-iff _).0 h.0.0, h.1), λ p. n17.1 (((not-false-iff _).1 p.0, tt), p.1));
-        four = (λ e. let h = n4.0 e in ((not-false-iff _).0 h.0.0, h.0.1.0, (not-iff _).0 h.1), λ p. n4.1 (((not-false-iff _).1 p.0, (p.1, tt)), (not-iff _).1 p.2));
+        four = (
+          λ e. let h = n4.0 e in ((not-false-iff _).0 h.0.0, h.0.1.0, (not-iff _).0 h.1),
+          λ p. n4.1 (((not-false-iff _).1 p.0, (p.1, tt)), (not-iff _).1 p.2),
+        );
         twenty = (
           λ e. let h = n20.0 e in (h.0.1.0, (not-false-iff _).0 h.0.1.1.0, (not-iff _).0 h.1),
           λ p. n20.1 (((not-false-iff _).1 (sound-head t p.1), (p.0, ((not-false-iff _).1 p.1, tt))), (not-iff _).1 p.2),
         );
         thirteen = (
           λ e. let h = n13.0 e in let s = (not-false-iff _).0 h.0.1.1.1.0 in (h.0.1.0, s, (outside-iff s).0 ((differ-iff _ _).0 h.1)),
-          λ p. n13.1 (((not-false-iff _).1 (settled-head t p.1), (p.0, ((not-false-iff _).1 (settled-sound t p.1), ((not-false-iff _).1 p.1, tt)))), (differ-iff _ _).1 ((outside-iff p.1).1 p.2)),
+          λ p. n13.1 (
+            (
+              (not-false-iff _).1 (settled-head t p.1),
+              (p.0, ((not-false-iff _).1 (settled-sound t p.1), ((not-false-iff _).1 p.1, tt))),
+            ),
+            (differ-iff _ _).1 ((outside-iff p.1).1 p.2),
+          ),
         );
         fifteen = (
           λ e. let h = n15.0 e in let s = (not-false-iff _).0 h.0.1.1.1.0 in
               (h.0.1.0, s, (whole-inside t list (settled-head t s)).0 ((same-iff _ _).0 h.0.1.1.1.1.0), (differ-iff _ _).0 h.1),
           λ p. let g = settled-head t p.1 in
-              n15.1 (((not-false-iff _).1 g, (p.0, ((not-false-iff _).1 (settled-sound t p.1), ((not-false-iff _).1 p.1, ((same-iff _ _).1 ((whole-inside t list g).1 p.2), tt))))), (differ-iff _ _).1 p.3),
+              n15.1 (
+                (
+                  (not-false-iff _).1 g,
+                  (
+                    p.0,
+                    (
+                      (not-false-iff _).1 (settled-sound t p.1),
+                      ((not-false-iff _).1 p.1, ((same-iff _ _).1 ((whole-inside t list g).1 p.2), tt)),
+                    ),
+                  ),
+                ),
+                (differ-iff _ _).1 p.3,
+              ),
         );
         twenty-one = (
           λ e. let h = n21.0 e in let s = (not-false-iff _).0 h.0.1.1.1.0 in (
@@ -77,7 +94,16 @@ module _ (x : Call) (t list : Words) (out : ℕ) where
           ),
           λ p. let g = settled-head t p.1 in
               n21.1 (
-                ((not-false-iff _).1 g, (p.0, ((not-false-iff _).1 (settled-sound t p.1), ((not-false-iff _).1 p.1, ((same-iff _ _).1 ((whole-inside t list g).1 p.2), ((same-iff _ _).1 p.3, tt)))))),
+                (
+                  (not-false-iff _).1 g,
+                  (
+                    p.0,
+                    (
+                      (not-false-iff _).1 (settled-sound t p.1),
+                      ((not-false-iff _).1 p.1, ((same-iff _ _).1 ((whole-inside t list g).1 p.2), ((same-iff _ _).1 p.3, tt))),
+                    ),
+                  ),
+                ),
                 (differ-iff _ _).1 p.4,
               ),
         );

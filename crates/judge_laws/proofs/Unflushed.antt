@@ -1,15 +1,10 @@
 -- The one line that may hold unflushed stores, order by order, for any list.
-use mathlib.Core.Path.{◌≡◌, refl, sym, ap, ◌∙◌}
-use mathlib.Core.Bool.{Bool, true, false, cond, not, false≢true}
-use mathlib.Core.Logic.{◌≢◌, inl, inr}
-use mathlib.Core.List.{List, [], ◌∷◌, ◌++◌, append-nil}
+use Rattle.std.proofs.Common.{◌≡◌, ℕ, Bool, true, false, cond, not, eqb, ◌≢◌, List, [], ◌∷◌, ◌++◌, length, sym, refl, ap, ◌∙◌, inl, inr}
+use Rattle.std.proofs.Common.{append-nil, arith, length-append, eq-eqb, ne_eqb, eqb-true}
+use mathlib.Core.Bool.{false≢true}
 use mathlib.Core.Option.{Option, none, some}
-use Prim.Native.Nat.{ℕ}
-use native.Mathlib.Omega.{arith}
 use native.Mathlib.Decide.{ℕ_discrete}
-use lib.Dec.{eqb}
-use borrow.Author.Tests.{eqb-true, eqb-false, eq-eqb, ne_eqb}
-use lib.ListN.{length, length-append}
+use borrow.Author.Tests.{eqb-false}
 use Rattle.model.specs.Table.{line}
 use Rattle.model.specs.Orders.{Store, Order, store, flush, barrier}
 use Rattle.model.specs.Cuts.{flushed, since_flush, line_stores, later_stores}
@@ -35,7 +30,8 @@ store-leaves : (os : List Order) (s : Store) → later_stores (line s.word) (os 
 store-leaves os s e = omega (arith, simp length-append at (ap length (sym (same-end os s) ∙ e)))
 
 -- one order more, no second line
-holding-store : (l : Option ℕ) (os : List Order) (s : Store) → Holding l os → second_line l (store s) ≡ false → Holding (some (line s.word)) (os ++ (store s ∷ []))
+holding-store : (l : Option ℕ) (os : List Order) (s : Store) → Holding l os → second_line l (store s) ≡ false
+    → Holding (some (line s.word)) (os ++ (store s ∷ []))
 holding-store none os s h e = (store-leaves os s, λ k z. other-end os s k z ∙ h k)
 holding-store (some l) os s h e = (store-leaves os s, λ k z. other-end os s k z ∙ h.1 k (λ q. z (q ∙ sym same)))
   where
@@ -76,7 +72,8 @@ holding-barrier none os h = λ j. barrier-same os j ∙ h j
 holding-barrier (some l) os h = (λ q. h.0 (sym (barrier-same os l) ∙ q), λ j z. barrier-same os j ∙ h.1 j z)
 
 -- The line after one order more.
-pub holding-more : (l : Option ℕ) (os : List Order) (o : Order) → Holding l os → second_line l o ≡ false → Holding (unflushed_after l o) (os ++ (o ∷ []))
+pub holding-more : (l : Option ℕ) (os : List Order) (o : Order) → Holding l os → second_line l o ≡ false
+    → Holding (unflushed_after l o) (os ++ (o ∷ []))
 holding-more l os (store s) h e = holding-store l os s h e
 holding-more l os (flush k) h e = holding-flush l os k h
 holding-more none os barrier h e = holding-barrier none os h

@@ -1,10 +1,7 @@
 -- The slots of a node marked one by one, and of all these nodes.
-use mathlib.Core.Path.{◌≡◌, refl, ap, sym, subst, ◌∙◌}
-use mathlib.Core.Logic.{◌≢◌}
-use mathlib.Core.List.{List, []}
-use Prim.Native.Nat.{ℕ, suc, ◌+◌, ◌-◌, ◌*◌, ◌/◌, ◌%◌, ◌≤◌, ◌<◌}
-use native.Mathlib.Omega.{arith}
-use lib.ListN.{length, get_or, drop, replicate, length-replicate}
+use Rattle.std.proofs.Common.{◌≡◌, ℕ, suc, ◌+◌, ◌-◌, ◌*◌, ◌/◌, ◌%◌, ◌<◌, ◌≤◌, ◌≢◌, List, [], length, get_or, drop, replicate, sym, refl, ap}
+use Rattle.std.proofs.Common.{◌∙◌, subst, arith}
+use lib.ListN.{length-replicate}
 use Rattle.model.specs.declared.Node.{Node}
 use Rattle.model.specs.Table.{Words, node}
 use Rattle.model.specs.Slots.{Slot, slot}
@@ -13,12 +10,14 @@ use Rattle.tour_laws.specs.Walk.{before, slots_from}
 use Rattle.tour_laws.proofs.Ways.{slots-past}
 use Rattle.bits.proofs.Marks.{none-marked}
 use Rattle.gather.specs.Held.{met}
-use Rattle.gather.proofs.Leaves.{leaf-step, leaf-stop, before-next, before-first, leaf-start, leaf-not, slots-append, nodes-next, nodes-last}
+use Rattle.gather.proofs.Leaves.{leaf-step, leaf-stop, before-next, before-first, leaf-start, leaf-not, slots-append, nodes-next}
+use Rattle.gather.proofs.Leaves.{nodes-last}
 use Rattle.keeping.specs.Marks.{slot_of, marked_to, Matches, Unmarked, Marked, NodeMarked}
 use Rattle.keeping.proofs.Marks.{marked-far}
 
 -- slot i of the node entered at place j
-pub slot-here : (t order : Words) (j i : ℕ) (x : Node) → i < 12 → x ≡ node t (get_or order j 0) → slot_of t order (12 * j + i) ≡ slot (get_or x.slots (2 * i) 0) (get_or x.slots (2 * i + 1) 0)
+pub slot-here : (t order : Words) (j i : ℕ) (x : Node) → i < 12 → x ≡ node t (get_or order j 0) → slot_of t order (12 * j + i)
+    ≡ slot (get_or x.slots (2 * i) 0) (get_or x.slots (2 * i + 1) 0)
 unfolding slot_of
 slot-here t order j i x h q =
     let a : (12 * j + i) / 12 ≡ j = omega arith in
@@ -37,7 +36,8 @@ module _ (t order : Words) (j : ℕ) (x : Node) (q : x ≡ node t (get_or order 
     pub long : length ms ≡ length ms₀
     pub beyond : Unmarked ms₀ (12 * j) → Unmarked ms (12 * j + i)
     pub goes : Unmarked ms₀ (12 * j) → (g : Gathered) → Matches g.kept (marked_to t order ms₀ (12 * j))
-        → (h : Gathered) × (gather_slots n (slots_from t n i) h ≡ gather_slots n (collected t n) g) × Matches h.kept (marked_to t order ms (12 * j + i)) × (length h.kept ≡ length g.kept + d)
+        → (h : Gathered) × (gather_slots n (slots_from t n i) h ≡ gather_slots n (collected t n) g)
+        × Matches h.kept (marked_to t order ms (12 * j + i)) × (length h.kept ≡ length g.kept + d)
 
   pub looking-start : x.level ≡ 0 → Looking ms₀ 0 x.left 0
   looking-start e =
@@ -53,7 +53,8 @@ module _ (t order : Words) (j : ℕ) (x : Node) (q : x ≡ node t (get_or order 
 
   module _ (ms : Words) (d b i : ℕ) (c : Looking ms d b i) where
     pub looking-step : i < 12 → get_or x.slots (2 * i + 1) 0 ≢ 0 → (ms' : Words) (r : ℕ)
-        → Marked t order ms ms' (12 * j + i) (get_or x.slots (2 * i) 0) (get_or x.slots (2 * i + 1) 0) (met t x.sibling b i (get_or x.slots (2 * i) 0) (get_or x.slots (2 * i + 1) 0)) r
+        → Marked t order ms ms' (12 * j + i) (get_or x.slots (2 * i) 0) (get_or x.slots (2 * i + 1) 0)
+        (met t x.sibling b i (get_or x.slots (2 * i) 0) (get_or x.slots (2 * i + 1) 0)) r
         → Looking ms' (d + r) (get_or x.slots (2 * i + 1) 0) (i + 1)
     looking-step h z ms' r m =
         let e : suc (12 * j + i) ≡ 12 * j + (i + 1) = omega arith in
@@ -68,7 +69,8 @@ module _ (t order : Words) (j : ℕ) (x : Node) (q : x ≡ node t (get_or order 
               let u = c.goes y g k in
               let w = m.goes (c.beyond y) (slot-here t order j i x h q) n u.0 u.2 in (
                 gather_slots n xs u.0,
-                sym (slots-append n xs (slots_from t n (i + 1)) u.0) ∙ ap (λ (l : List Placed). gather_slots n l u.0) (sym (leaf-step t n x q i b h z c.pointer-before)) ∙ u.1,
+                sym (slots-append n xs (slots_from t n (i + 1)) u.0)
+                    ∙ ap (λ (l : List Placed). gather_slots n l u.0) (sym (leaf-step t n x q i b h z c.pointer-before)) ∙ u.1,
                 subst (λ (w : ℕ). Matches (gather_slots n xs u.0).kept (marked_to t order ms' w)) e w.0,
                 w.1 ∙ (let a = u.3 in omega arith),
               );
@@ -86,8 +88,12 @@ module _ (t order : Words) (j : ℕ) (x : Node) (q : x ≡ node t (get_or order 
           goes = λ y g k.
               let u = c.goes y g k in
               let same : u.0 ≡ gather_slots n (collected t n) g = sym (ap (λ (l : List Placed). gather_slots n l u.0) e) ∙ u.1 in
-              let far : marked_to t order ms (12 * (j + 1)) ≡ marked_to t order ms (12 * j + i) = ap (marked_to t order ms) (sym s) ∙ marked-far t order ms (12 * j + i) (12 - i) (c.beyond y) in
-              (subst (λ (h : Gathered). Matches h.kept (marked_to t order ms (12 * (j + 1)))) same (subst (λ (l : List Slot). Matches u.0.kept l) (sym far) u.2), ap (λ (h : Gathered). length h.kept) (sym same) ∙ u.3);
+              let far : marked_to t order ms (12 * (j + 1)) ≡ marked_to t order ms (12 * j + i) =
+              ap (marked_to t order ms) (sym s) ∙ marked-far t order ms (12 * j + i) (12 - i) (c.beyond y) in (
+                subst (λ (h : Gathered). Matches h.kept (marked_to t order ms (12 * (j + 1)))) same
+                    (subst (λ (l : List Slot). Matches u.0.kept l) (sym far) u.2),
+                ap (λ (h : Gathered). length h.kept) (sym same) ∙ u.3,
+              );
         }
 
     pub looking-stop : i < 12 → get_or x.slots (2 * i + 1) 0 ≡ 0 → NodeMarked t order ms₀ ms j d
@@ -100,14 +106,19 @@ module _ (t order : Words) (j : ℕ) (x : Node) (q : x ≡ node t (get_or order 
   unfolding gather_slots
   looking-none e =
       let s : 12 * j + 12 ≡ 12 * (j + 1) = omega arith in
-      let none : (g : Gathered) → gather_slots n (collected t n) g ≡ g = λ g. ap (λ (l : List Placed). gather_slots n l g) (leaf-not t n x q e) in
+      let none : (g : Gathered) → gather_slots n (collected t n) g ≡ g =
+      λ g. ap (λ (l : List Placed). gather_slots n l g) (leaf-not t n x q e) in
       record {
         long = refl;
         few = omega arith;
         beyond = λ y k h. y k (omega arith);
         goes = λ y g k.
-            let far : marked_to t order ms₀ (12 * (j + 1)) ≡ marked_to t order ms₀ (12 * j) = ap (marked_to t order ms₀) (sym s) ∙ marked-far t order ms₀ (12 * j) 12 y in
-            (subst (λ (h : Gathered). Matches h.kept (marked_to t order ms₀ (12 * (j + 1)))) (sym (none g)) (subst (λ (l : List Slot). Matches g.kept l) (sym far) k), ap (λ (h : Gathered). length h.kept) (none g) ∙ omega arith);
+            let far : marked_to t order ms₀ (12 * (j + 1)) ≡ marked_to t order ms₀ (12 * j) =
+            ap (marked_to t order ms₀) (sym s) ∙ marked-far t order ms₀ (12 * j) 12 y in (
+              subst (λ (h : Gathered). Matches h.kept (marked_to t order ms₀ (12 * (j + 1)))) (sym (none g))
+                  (subst (λ (l : List Slot). Matches g.kept l) (sym far) k),
+              ap (λ (h : Gathered). length h.kept) (none g) ∙ omega arith,
+            );
       }
 
 -- ---- along the nodes

@@ -1,14 +1,10 @@
 -- Slots in use are no fewer than the pairs kept.
-use mathlib.Core.Path.{◌≡◌, refl, ap, sym, ◌∙◌}
-use mathlib.Core.Logic.{◌≢◌}
-use mathlib.Core.List.{List, [], ◌∷◌}
-use Prim.Native.Nat.{ℕ, zero, suc, ◌+◌, ◌*◌, ◌≤◌, ◌<◌}
-use native.Mathlib.Omega.{arith}
-use lib.ListN.{length, get_or, drop}
+use Rattle.std.proofs.Common.{◌≡◌, ℕ, zero, suc, ◌+◌, ◌*◌, ◌<◌, ◌≤◌, ◌≢◌, List, [], ◌∷◌, length, get_or, drop, sym, refl, ap, ◌∙◌, arith}
 use Rattle.model.specs.declared.Node.{Node}
 use Rattle.model.specs.Table.{Words, node}
 use Rattle.model.specs.Slots.{node_view, used}
-use Rattle.model.specs.Salvage.{Placed, shown_at, in_reach, followed, Gathered, reason_for, gather_slot, gather_slots, collected, gather_nodes, gathered_along}
+use Rattle.model.specs.Salvage.{Placed, shown_at, in_reach, followed, Gathered, reason_for, gather_slot, gather_slots, collected}
+use Rattle.model.specs.Salvage.{gather_nodes, gathered_along}
 use Rattle.list_laws.proofs.Filters.{filter-short}
 use Rattle.tour_laws.proofs.Ends.{shown-short}
 use Rattle.tour_laws.proofs.Gathering.{slot-kept, slot-dropped, collected-leaf, collected-inner}
@@ -37,7 +33,8 @@ slot-few : (n : ℕ) (g : Gathered) (x : Placed) → length (gather_slot n g x).
 slot-few n g x = go (reason_for g.kept x.slot) refl
   where
     go : (y : ℕ) → reason_for g.kept x.slot ≡ y → length (gather_slot n g x).kept ≤ suc (length g.kept)
-    go zero e = let a = ap (λ (h : Gathered). length h.kept) (slot-kept n g x e) in let b = enter-length x.slot.key x.slot.pointer g.kept in omega arith
+    go zero e = let a = ap (λ (h : Gathered). length h.kept) (slot-kept n g x e) in let b =
+        enter-length x.slot.key x.slot.pointer g.kept in omega arith
     go (suc y) e = let a = ap (λ (h : Gathered). length h.kept) (slot-dropped n g x y e) in omega arith
 
 slots-few : (n : ℕ) (xs : List Placed) (g : Gathered) → length (gather_slots n xs g).kept ≤ length g.kept + length xs

@@ -15,4 +15,5 @@ module _ (t : Words) (c n : ℕ) where
   pub along-next : (m : ℕ) → (c ≡ 0 → ⊥) → (n ≡ 0 → ⊥) → m ≡ word_of t n 1 → along (view t) c n ≡ n ∷ along (view t) (c - 1) m
   along-next m z y e =
       let more : c ≡ suc (c - 1) = omega (arith, z) in
-      ap (λ (k : ℕ). along (view t) k n) more ∙ along-more (view t) (c - 1) n y ∙ ap (λ (k : ℕ). n ∷ along (view t) (c - 1) k) (rw (e, word-sibling))
+      ap (λ (k : ℕ). along (view t) k n) more ∙ along-more (view t) (c - 1) n y
+      ∙ ap (λ (k : ℕ). n ∷ along (view t) (c - 1) k) (rw (e, word-sibling))

@@ -1,13 +1,8 @@
 -- The leaves passed one by one: what is left to look through, from the present leaf and slot on.
-use mathlib.Core.Path.{◌≡◌, refl, ap, sym, ◌∙◌}
-use mathlib.Core.Bool.{true, false}
-use mathlib.Core.List.{List, [], ◌∷◌, map, tail}
-use Prim.Native.Nat.{ℕ, zero, suc, ◌+◌, ◌-◌, ◌≤◌, ◌<◌}
-use native.Mathlib.Omega.{arith}
-use native.Mathlib.Numerals.{add-one}
-use lib.Dec.{leb}
-use lib.ListN.{get_or}
-use borrow.Author.Tests.{eq-eqb, ne_eqb, le-leb, lt-leb}
+use Rattle.std.proofs.Common.{◌≡◌, ℕ, zero, suc, ◌+◌, ◌-◌, ◌<◌, ◌≤◌, true, false, leb, List, [], ◌∷◌, map, get_or, sym, refl, ap, ◌∙◌}
+use Rattle.std.proofs.Common.{add-one, arith, eq-eqb, ne_eqb, le-leb}
+use mathlib.Core.List.{tail}
+use borrow.Author.Tests.{lt-leb}
 use Rattle.model.specs.Table.{Words, root}
 use Rattle.model.specs.Slots.{Slot, recording_of, recording, View, node_view, view_from, view, height}
 use Rattle.model.specs.Search.{below}
@@ -32,7 +27,8 @@ numbers-none ps i = refl
 pub numbers-end : (ps : List ℕ) (i m : ℕ) → m ≤ i → numbers_from ps i (m - i) ≡ []
 numbers-end ps i m h = let z : m - i ≡ 0 = omega arith in ap (numbers_from ps i) z ∙ numbers-none ps i
 
-pub numbers-next : (ps : List ℕ) (i m : ℕ) → i < m → numbers_from ps i (m - i) ≡ recording_of (get_or ps i 0) ∷ numbers_from ps (i + 1) (m - (i + 1))
+pub numbers-next : (ps : List ℕ) (i m : ℕ) → i < m → numbers_from ps i (m - i) ≡ recording_of (get_or ps i 0)
+    ∷ numbers_from ps (i + 1) (m - (i + 1))
 unfolding numbers_from
 numbers-next ps i m h =
     let z : m - i ≡ suc (m - (i + 1)) = omega arith in
@@ -49,6 +45,7 @@ ways-numbers w i = span-numbers w.keys w.pointers i (w.count - i)
 
 -- the ways of a leaf but the first are its slots of the map, in any tree
 module _ (t : Words) (r n : ℕ) (w : Ways) (is : slots_in w ≡ ways (view t) n) where
+  -- a node's ways without the first, its left, are its kept slots
   pub kept-ways : ways_from w 1 ≡ kept (view_from t r) n
   unfolding ways_from span
   kept-ways = go w.count is ∙ any-kept t (root t) r n
@@ -73,9 +70,11 @@ module _ (t : Words) (r l : ℕ) (q : l ≡ word_of t r 2) where
   unfolding first_leaf
   leaf-none h = let z : leb (height v) 15 ≡ false = lt-leb (height v) 15 (omega (arith, top)) in rw (z, first_leaf)
 
+  -- going left from the root down its level, at most 15, comes to the leftmost leaf
   pub leaf-below : l ≤ 15 → leftmost (view_from t r) l r ≡ first_leaf (view_from t r)
   unfolding first_leaf
-  leaf-below h = let low : leb (height v) 15 ≡ true = le-leb (height v) 15 (omega (arith, top)) in ap (λ (k : ℕ). leftmost v k r) top ∙ rw (low, first_leaf)
+  leaf-below h = let low : leb (height v) 15 ≡ true =
+      le-leb (height v) 15 (omega (arith, top)) in ap (λ (k : ℕ). leftmost v k r) top ∙ rw (low, first_leaf)
 
   pub last-below : rightmost (view_from t r) l r ≡ last_leaf (view_from t r)
   unfolding last_leaf
@@ -94,7 +93,8 @@ unfolding leftmost
 leftmost-left v d n = refl
 
 pub leaf-down : (t : Words) (r n d e m : ℕ) → d ≡ suc e → m ≡ word_of t n 0 → leftmost (view_from t r) e m ≡ leftmost (view_from t r) d n
-leaf-down t r n d e m z q = let v = view_from t r in ap (leftmost v e) (q ∙ word-left t n) ∙ leftmost-left v e n ∙ ap (λ (k : ℕ). leftmost v k n) (sym z)
+leaf-down t r n d e m z q = let v =
+    view_from t r in ap (leftmost v e) (q ∙ word-left t n) ∙ leftmost-left v e n ∙ ap (λ (k : ℕ). leftmost v k n) (sym z)
 
 -- ---- the last leaf
 
@@ -102,9 +102,11 @@ leaf-down t r n d e m z q = let v = view_from t r in ap (leftmost v e) (q ∙ wo
 last-span : (ks ps : List ℕ) (e i m : ℕ) → last_or e (pointers (span ks ps i (suc m))) ≡ get_or ps (i + m) 0
 unfolding last_or span
 last-span ks ps e i zero = let z : i ≡ i + 0 = omega arith in ap (λ (j : ℕ). get_or ps j 0) z
-last-span ks ps e i (suc m) = let z : suc i + m ≡ i + suc m = omega arith in last-span ks ps (get_or ps i 0) (suc i) m ∙ ap (λ (j : ℕ). get_or ps j 0) z
+last-span ks ps e i (suc m) = let z : suc i + m ≡ i + suc m =
+    omega arith in last-span ks ps (get_or ps i 0) (suc i) m ∙ ap (λ (j : ℕ). get_or ps j 0) z
 
 module _ (t : Words) (n : ℕ) (w : Ways) (is : slots_in w ≡ ways (view t) n) where
+  -- a node has at least one way, its left
   pub some-way : 1 ≤ w.count
   unfolding span
   some-way = go w.count is
@@ -131,7 +133,8 @@ module _ (t : Words) (n : ℕ) (w : Ways) (is : slots_in w ≡ ways (view t) n) 
 
     pub last-beside : (sibling ≡ 0 → ⊥) → sibling ≡ last_child (view t) n
     unfolding or_sibling
-    last-beside z = here ∙ sym (rw (ne_eqb (node_view t last).sibling 0 (λ q. z (here ∙ q)), or_sibling)) ∙ ap (or_sibling (view t)) (l ∙ last-named)
+    last-beside z = here ∙ sym (rw (ne_eqb (node_view t last).sibling 0 (λ q. z (here ∙ q)), or_sibling))
+        ∙ ap (or_sibling (view t)) (l ∙ last-named)
 
 pub last-here : (v : View) (d n m : ℕ) → d ≡ 0 → rightmost v d n ≡ m → n ≡ m
 unfolding rightmost
@@ -146,9 +149,11 @@ rightmost-last : (v : View) (d n : ℕ) → rightmost v d (last_child v n) ≡ r
 unfolding rightmost
 rightmost-last v d n = refl
 
-pub last-down : (t : Words) (r n d e m : ℕ) → d ≡ suc e → m ≡ last_child (view t) n → rightmost (view_from t r) e m ≡ rightmost (view_from t r) d n
+pub last-down : (t : Words) (r n d e m : ℕ) → d ≡ suc e → m ≡ last_child (view t) n → rightmost (view_from t r) e m
+    ≡ rightmost (view_from t r) d n
 last-down t r n d e m z q =
-    let v = view_from t r in ap (rightmost v e) (q ∙ any-last t (root t) r n) ∙ rightmost-last v e n ∙ ap (λ (k : ℕ). rightmost v k n) (sym z)
+    let v = view_from t r in ap (rightmost v e) (q ∙ any-last t (root t) r n) ∙ rightmost-last v e n
+    ∙ ap (λ (k : ℕ). rightmost v k n) (sym z)
 
 -- ---- a number in the leaves
 
@@ -165,7 +170,8 @@ module _ {t : Words} {r : ℕ} {h : Option Hit} {ns : List ℕ} (k : Ahead t r h
   unfolding first_hit
   hit-no-more z = sym (ap (first_hit (view t) r) z) ∙ k.comes-to
 
-  pub hit-enter : (leaf : ℕ) (later : List ℕ) (w : Ways) → ns ≡ leaf ∷ later → slots_in w ≡ ways (view t) leaf → Within t r h leaf later w.count w.pointers 1
+  pub hit-enter : (leaf : ℕ) (later : List ℕ) (w : Ways) → ns ≡ leaf ∷ later → slots_in w ≡ ways (view t) leaf
+      → Within t r h leaf later w.count w.pointers 1
   unfolding first_hit
   hit-enter leaf later w more e =
       record {

@@ -1,10 +1,7 @@
 -- A word of the table, and the ways down from a node, from what is read of it.
-use mathlib.Core.Path.{◌≡◌, ap, sym, ◌∙◌}
-use mathlib.Core.List.{◌∷◌}
-use Prim.Native.Nat.{ℕ, ◌≤◌}
-use lib.ListN.{length, get_or-eq_default}
+use Rattle.std.proofs.Common.{◌≡◌, ℕ, ◌∷◌, ap, ◌∙◌}
 use Rattle.model.specs.declared.Node.{Node}
-use Rattle.model.specs.Table.{Words, at, node}
+use Rattle.model.specs.Table.{Words, node}
 use Rattle.model.specs.Slots.{slot, used, view}
 use Rattle.model.specs.Search.{below}
 use Rattle.model.specs.Reached.{kept}
@@ -15,19 +12,19 @@ use Rattle.slots.specs.declared.ways.Ways.{Ways}
 use Rattle.slots.specs.Scan.{shown_from, keeps, kept_of}
 use Rattle.slots.specs.Gathered.{slots_in}
 
-pub past-end : (t : Words) (w : ℕ) → length t ≤ w → 0 ≡ at t w
-past-end t w h = sym (get_or-eq_default t 0 {n = w} h)
-
 -- ---- node n of a table, and its sibling's fence
 
+-- the fence of node n's sibling
 abbrev pub bound_of : Words → ℕ → ℕ
 bound_of t n = (node t (node t n).sibling).fence
 
 module _ (t : Words) (n : ℕ) (x : Node) (e : ℕ) (is : x ≡ node t n) (fence : e ≡ word_of t x.sibling 3) where
+  -- the fence that is read in the sibling is the bound of node n
   pub bound-is : e ≡ bound_of t n
   bound-is = fence ∙ ap (λ (y : Node). word_of t y.sibling 3) is ∙ word-fence t (node t n).sibling
 
-  pub ways-are : (w : Ways) → slots_in w ≡ slot x.fence x.left ∷ kept_of x.sibling e (shown_from x.left x.slots 0) → slots_in w ≡ ways (view t) n
+  pub ways-are : (w : Ways) → slots_in w ≡ slot x.fence x.left ∷ kept_of x.sibling e (shown_from x.left x.slots 0)
+      → slots_in w ≡ ways (view t) n
   unfolding used kept below keeps
   ways-are w q =
       q ∙ ap (λ (b : ℕ). slot x.fence x.left ∷ kept_of x.sibling b (shown_from x.left x.slots 0)) bound-is

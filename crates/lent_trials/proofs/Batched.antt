@@ -1,9 +1,6 @@
 -- Sentences of scale 2, many insertions in one call, each computed where it decides.
-use mathlib.Core.Path.{◌≡◌, refl}
-use mathlib.Core.List.{List, [], ◌∷◌, ◌++◌}
+use Rattle.std.proofs.Common.{◌≡◌, ℕ, List, [], ◌∷◌, ◌++◌, length, drop, replicate, refl}
 use mathlib.Core.Option.{some}
-use Prim.Native.Nat.{ℕ}
-use lib.ListN.{length, drop, replicate}
 use Rattle.std.specs.Prelude as rust
 use Rattle.model.specs.declared.Refusal.{Refusal}
 use Rattle.model.specs.declared.Refusal.TheVariants.{ShortList, BadRecording, KeyPresent}
@@ -20,7 +17,8 @@ use Rattle.model.proofs.Tables.{table_of, stale, one_level}
 
 -- an answer, word by word
 abbrev pub sums : (stop : rust.Option Refusal) → (taken stores flushes barriers : ℕ) → Batch
-sums stop taken stores flushes barriers = record { stop = stop; taken = taken; counts = record { stores = stores; flushes = flushes; barriers = barriers } }
+sums stop taken stores flushes barriers =
+    record { stop = stop; taken = taken; counts = record { stores = stores; flushes = flushes; barriers = barriers } }
 
 -- three pairs, of three classes, the second below the first; then one whose key is there
 abbrev pub three : List Slot
@@ -56,7 +54,8 @@ pub record BatchLists : Type 0 where
 
 pub record BatchStops : Type 0 where
   -- A refused pair stops it with its number; those before it are taken, and nothing of those after it.
-  pub stops : ((ran 0 clash 2600).answer ≡ sums (rust.Some KeyPresent) 3 14 3 0) × ((ran 0 clash 2600).table ≡ table_of 1 (node_words MARK 0 0 0 sorted ∷ [])) × (drop 34 (ran 0 clash 2600).list ≡ lent 2566)
+  pub stops : ((ran 0 clash 2600).answer ≡ sums (rust.Some KeyPresent) 3 14 3 0)
+      × ((ran 0 clash 2600).table ≡ table_of 1 (node_words MARK 0 0 0 sorted ∷ [])) × (drop 34 (ran 0 clash 2600).list ≡ lent 2566)
   -- 5 by the words that are left of the list.
   pub five : (ran 0 three 2560).answer ≡ sums (rust.Some ShortList) 1 4 1 0
   -- A batch that stops before its first pair, or has none, changes nothing.

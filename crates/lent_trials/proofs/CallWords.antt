@@ -1,9 +1,5 @@
 -- The records that the C calls promise, each for an answer that decides: words from 11 on are what the lent words held before.
-use mathlib.Core.Path.{◌≡◌, refl}
-use mathlib.Core.Bool.{true, false}
-use mathlib.Core.List.{[], ◌∷◌}
-use Prim.Native.Nat.{ℕ}
-use lib.ListN.{replicate}
+use Rattle.std.proofs.Common.{◌≡◌, ℕ, true, false, [], ◌∷◌, replicate, refl}
 use Rattle.std.specs.Prelude.{Option, Ok, Some, None}
 use Rattle.model.specs.declared.Refusal.{Refusal}
 use Rattle.model.specs.declared.Refusal.TheVariants.{KeyPresent}
@@ -16,7 +12,8 @@ use Rattle.model.specs.Orders.{apply}
 use Rattle.model.specs.Refusals.{list_after}
 use Rattle.model.specs.Sentinels.{sentinels}
 use Rattle.model.proofs.Everything.{everything}
-use Rattle.model.specs.Answers.{version, search_number, Looked, Counted, Wrote, puts, Summed, WroteMany, WroteWith, Showed, Rebuilt, Ruled, Wore}
+use Rattle.model.specs.Answers.{version, search_number, Looked, Counted, Wrote, puts, Summed, WroteMany, WroteWith, Showed, Rebuilt, Ruled}
+use Rattle.model.specs.Answers.{Wore}
 
 -- an insertion into the empty table, its list for dock 1, and what it comes to
 abbrev pub enters : Call
@@ -39,7 +36,7 @@ abbrev pub sums : (stop : Option Refusal) → (taken : ℕ) → Batch
 sums stop taken = record { stop = stop; taken = taken; counts = record { stores = 5; flushes = 6; barriers = 7 } }
 
 pub record CallWords : Type 0 where
-  pub is-version : version ≡ 15
+  pub is-version : version ≡ 16
   -- 0 for found, 255 for absent, else the number.
   pub searches : (search_number (Found 5 1) ≡ 0) × (search_number (Absent None) ≡ 255) × (search_number (Refused 3) ≡ 3)
   pub found : Looked (Found 5 1) 0 11 5 12 1 13 13 14 14
@@ -81,21 +78,53 @@ call-words =
       not-looked = record { number-is = refl; recording-is = refl; access-is = refl; next-is = refl; higher-is = refl };
       counted = record { number-is = refl; stores-are = refl; flushes-are = refl; barriers-are = refl };
       not-counted = record { number-is = refl; stores-are = refl; flushes-are = refl; barriers-are = refl };
-      wrote = record { answer-is = record { number-is = refl; stores-are = refl; flushes-are = refl; barriers-are = refl }; table-is = refl; list-is = refl };
-      not-wrote = record { answer-is = record { number-is = refl; stores-are = refl; flushes-are = refl; barriers-are = refl }; table-is = refl; list-is = refl };
+      wrote = record {
+        answer-is = record { number-is = refl; stores-are = refl; flushes-are = refl; barriers-are = refl };
+        table-is = refl;
+        list-is = refl;
+      };
+      not-wrote = record {
+        answer-is = record { number-is = refl; stores-are = refl; flushes-are = refl; barriers-are = refl };
+        table-is = refl;
+        list-is = refl;
+      };
       works = (refl, refl, refl);
       summed = record { number-is = refl; taken-are = refl; stop-is = refl; stores-are = refl; flushes-are = refl; barriers-are = refl };
-      not-summed = record { number-is = refl; taken-are = refl; stop-is = refl; stores-are = refl; flushes-are = refl; barriers-are = refl };
+      not-summed = record {
+        number-is = refl;
+        taken-are = refl;
+        stop-is = refl;
+        stores-are = refl;
+        flushes-are = refl;
+        barriers-are = refl;
+      };
       wrote-many =
           record {
-            answer-is = record { number-is = refl; taken-are = refl; stop-is = refl; stores-are = refl; flushes-are = refl; barriers-are = refl };
+            answer-is = record {
+              number-is = refl;
+              taken-are = refl;
+              stop-is = refl;
+              stores-are = refl;
+              flushes-are = refl;
+              barriers-are = refl;
+            };
             table-is = refl;
             list-is = refl;
           };
       wrote-with =
-          record { answer-is = record { number-is = refl; stores-are = refl; flushes-are = refl; barriers-are = refl }; table-is = refl; list-is = refl; sentinels-are = refl };
+          record {
+            answer-is = record { number-is = refl; stores-are = refl; flushes-are = refl; barriers-are = refl };
+            table-is = refl;
+            list-is = refl;
+            sentinels-are = refl;
+          };
       not-wrote-with =
-          record { answer-is = record { number-is = refl; stores-are = refl; flushes-are = refl; barriers-are = refl }; table-is = refl; list-is = refl; sentinels-are = refl };
+          record {
+            answer-is = record { number-is = refl; stores-are = refl; flushes-are = refl; barriers-are = refl };
+            table-is = refl;
+            list-is = refl;
+            sentinels-are = refl;
+          };
       showed = record { number-is = refl; pairs-are = refl; more-is = refl };
       not-showed = record { number-is = refl; pairs-are = refl; more-is = refl };
       rebuilt = record { number-is = refl; dropped-are = refl };

@@ -1,16 +1,10 @@
 -- Each call answers the number that its definition gives: a refusal and its number give each other back.
-use mathlib.Core.Path.{◌≡◌, refl, ap, ◌∙◌}
-use mathlib.Core.Bool.{Bool, true, false}
-use mathlib.Core.List.{List}
-use mathlib.Core.Logic.{inl, inr}
-use Prim.Native.Nat.{ℕ, zero, suc}
-use native.Mathlib.Omega.{arith}
-use borrow.Author.Tests.{ne_eqb}
-use lib.ListN.{length}
+use Rattle.std.proofs.Common.{◌≡◌, ℕ, zero, suc, Bool, true, false, List, length, refl, ap, ◌∙◌, inl, inr, arith, ne_eqb}
 use Rattle.std.specs.Prelude.{cond, eqb, ltb, ◌/◌, Result, Ok}
 use Rattle.crash_laws.proofs.Demand3.{plain-answered}
 use Rattle.model.specs.declared.Refusal.{Refusal}
-use Rattle.model.specs.declared.Refusal.TheVariants.{NoCode, NoTable, NotSound, ShortList, BadRecording, KeyPresent, RecordingPresent, KeyAbsent}
+use Rattle.model.specs.declared.Refusal.TheVariants.{NoCode, NoTable, NotSound, ShortList, BadRecording, KeyPresent, RecordingPresent}
+use Rattle.model.specs.declared.Refusal.TheVariants.{KeyAbsent}
 use Rattle.model.specs.declared.Refusal.TheVariants.{NoNodes, TooHigh, BadOrders, BadClass, OtherLength, ShortReport, NoCollection, NoDock}
 use Rattle.model.specs.declared.Refusal.TheVariants.{NotSettled, ChangeRefused, NoScript, BadScript, ShortFigures, BadPairs, OtherSummary}
 use Rattle.model.specs.Numbers.{refusal_number}
@@ -27,7 +21,8 @@ use Rattle.model.specs.Wear.{wear_number, figures, worn}
 use Rattle.model.specs.Writes.{Call, insertion, deletion, class_change, repair}
 use Rattle.model.specs.Refusals.{first_number, unless_refused, seventeen_in, refusal, written}
 use Rattle.model.specs.Sentinels.{slice_number, work_number, work_out, refusal_with, written_with}
-use Rattle.model.specs.Summary.{open_number, opening, own_tests, marks_in, cells_in, quick_number, quick_orders, quick_written, page_of, quick_list_number, quick_listed}
+use Rattle.model.specs.Summary.{open_number, opening, own_tests, marks_in, cells_in, quick_number, quick_orders, quick_written, page_of}
+use Rattle.model.specs.Summary.{quick_list_number, quick_listed}
 use Rattle.model.specs.Scripts.{SCRIPTS, rank, actions_in, form_script, script_answer, script_number}
 use Rattle.model.specs.Judge.{judged, judge_number, judge, verdict_number}
 use Rattle.model.proofs.Numbers.{refusal-of-number, Numbered, numbered, none-numbered, one-more, answered-number, itself, slice-numbered}
@@ -45,15 +40,18 @@ behind (suc n) m g h = g
 
 -- ---- answers by a number
 
-by-refusal : {T : Type 0} (n : ℕ) (done : Result T Refusal) → Numbered n → answer_number done ≡ 0 → answer_number (unless_refused n done (refused_with n)) ≡ n
+by-refusal : {T : Type 0} (n : ℕ) (done : Result T Refusal) → Numbered n → answer_number done ≡ 0
+    → answer_number (unless_refused n done (refused_with n)) ≡ n
 by-refusal n done h e = answered-number n 0 done h e ∙ itself n
 
-by-zero : {T : Type 0} (n : ℕ) (done : Result T Refusal) → Numbered n → answer_number done ≡ 0 → answer_number (cond (eqb n 0) done (refused_with n)) ≡ n
+by-zero : {T : Type 0} (n : ℕ) (done : Result T Refusal) → Numbered n → answer_number done ≡ 0
+    → answer_number (cond (eqb n 0) done (refused_with n)) ≡ n
 by-zero zero done h e = e
 by-zero (suc n) done (inr h) e = rw (ne_eqb (suc n) 0 (λ z. omega arith)) h
 by-zero (suc n) done (inl h) e = absurd (omega arith)
 
-by-test : {T : Type 0} (b : Bool) (x : T) (r : Refusal) → answer_number (cond b (Ok x) (refused_with (refusal_number r))) ≡ cond b 0 (refusal_number r)
+by-test : {T : Type 0} (b : Bool) (x : T) (r : Refusal) → answer_number (cond b (Ok x) (refused_with (refusal_number r)))
+    ≡ cond b 0 (refusal_number r)
 by-test true x r = refl
 by-test false x r = ap refusal_number (refusal-of-number r)
 
@@ -149,12 +147,7 @@ unfolding salvage
 salvage-answers t out report =
     by-refusal (salvage_number t out report) (Ok (length (dropped_all t))) (salvage-numbered t out report) refl
 
--- ---- the writing calls
-
-pub written-answers : (x : Call) (words dock : ℕ) (t : Words) → answer_number (written x words dock t) ≡ refusal x words dock t
-written-answers = plain-answered
-
--- ---- sentinels: working them out, 4; the writing calls with them
+-- ---- the writing calls: `plain-answered` in crates/crash_laws; sentinels: working them out, 4; the writing calls with them
 
 work-numbered : (m : ℕ) (t : Words) → Numbered (work_number m t)
 unfolding work_number
@@ -169,7 +162,8 @@ pub with-answers : (x : Call) (m words dock : ℕ) (t : Words) → answer_number
 unfolding written_with refusal_with
 with-answers x m words dock t =
     let n = slice_number (seventeen_in x t) m t in
-    answered-number n (refusal x words dock t) (written x words dock t) (slice-numbered (seventeen_in x t) m t) (written-answers x words dock t)
+    answered-number n (refusal x words dock t) (written x words dock t) (slice-numbered (seventeen_in x t) m t)
+    (plain-answered x words dock t)
 
 -- ---- summaries: opening, 2, 26, 4, 20; the quick calls, and the quick listing
 
@@ -196,11 +190,13 @@ quick-numbered x words dock ws t =
     one-more _ NoTable _ (one-more _ NoCollection _ (one-more _ OtherSummary _ (one-more _ NotSound _
     (one-more _ NoDock _ (one-more _ ShortList _ (own-numbered x (marks_in (nodes t) ws) (cells_in (nodes t) ws) t))))))
 
-pub quick-answers : (x : Call) (words dock : ℕ) (ws t : Words) → answer_number (quick_written x words dock ws t) ≡ quick_number x words dock ws t
+pub quick-answers : (x : Call) (words dock : ℕ) (ws t : Words) → answer_number (quick_written x words dock ws t)
+    ≡ quick_number x words dock ws t
 unfolding quick_written
 quick-answers x words dock ws t =
     let os = quick_orders x dock ws t in
-    by-refusal (quick_number x words dock ws t) (done_with (store_count os) (flush_count os) (barrier_count os)) (quick-numbered x words dock ws t) refl
+    by-refusal (quick_number x words dock ws t) (done_with (store_count os) (flush_count os) (barrier_count os))
+    (quick-numbered x words dock ws t) refl
 
 quick-list-numbered : (n : ℕ) (ws t : Words) (low : ℕ) → Numbered (quick_list_number n ws t low)
 unfolding quick_list_number

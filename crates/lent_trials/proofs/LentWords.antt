@@ -1,9 +1,5 @@
 -- Each answer's number and what its lent words then hold, case by case: 8 is what a word held before.
-use mathlib.Core.Path.{◌≡◌, refl}
-use mathlib.Core.Bool.{true, false}
-use mathlib.Core.List.{[], ◌∷◌}
-use Prim.Native.Nat.{ℕ}
-use lib.ListN.{replicate, set}
+use Rattle.std.proofs.Common.{◌≡◌, ℕ, true, false, [], ◌∷◌, set, replicate, refl}
 use Rattle.std.specs.Prelude.{Ok, Some, None}
 use Rattle.model.specs.Results.{refused_with, done_with, page_with, worn_with, answer_number}
 use Rattle.model.specs.declared.Answer.TheVariants.{Found, Absent, Refused}
@@ -43,7 +39,8 @@ pub record LentWords : Type 0 where
   pub recordings : (recording_or (Found 5 1) 8 ≡ 5) × (recording_or (Absent (Some 6)) 8 ≡ 8) × (recording_or (Refused 3) 8 ≡ 8)
   pub classes : (access_or (Found 5 1) 8 ≡ 1) × (access_or (Absent (Some 6)) 8 ≡ 8) × (access_or (Refused 3) 8 ≡ 8)
   pub nexts : (next_or (Found 5 1) 8 ≡ 8) × (next_or (Absent (Some 6)) 8 ≡ 6) × (next_or (Absent None) 8 ≡ 8) × (next_or (Refused 3) 8 ≡ 8)
-  pub highers : (higher_or (Found 5 1) 8 ≡ 8) × (higher_or (Absent (Some 6)) 8 ≡ 1) × (higher_or (Absent None) 8 ≡ 0) × (higher_or (Refused 3) 8 ≡ 8)
+  pub highers : (higher_or (Found 5 1) 8 ≡ 8) × (higher_or (Absent (Some 6)) 8 ≡ 1) × (higher_or (Absent None) 8 ≡ 0)
+      × (higher_or (Refused 3) 8 ≡ 8)
   -- A listing puts its count, and 1 if more are left, 0 if not.
   pub list-numbers : (answer_number (page_with 5 true) ≡ 0) × (answer_number {T = ℕ} (refused_with 17) ≡ 17)
   pub counts : (count_or (page_with 5 true) 8 ≡ 5) × (count_or (refused_with 17) 8 ≡ 8)
@@ -71,14 +68,18 @@ pub record LentWords : Type 0 where
   pub ranks : (rank_or (Ok 5) 8 ≡ 5) × (rank_or (refused_with 23) 8 ≡ 8)
   -- Calls that answer a number alone, and what they leave of their words.
   pub outcomes : (answer_number {T = Unit {0}} (Ok tt) ≡ 0) × (answer_number {T = ℕ} (refused_with 13) ≡ 13)
-  pub makes : (making 2 (replicate 72 7) ≡ Ok tt) × (made 2 (replicate 72 7) ≡ good) × (making 3 good ≡ refused_with 17) × (made 3 headless ≡ headless) × (making 2 (empty 1) ≡ refused_with 2)
+  pub makes : (making 2 (replicate 72 7) ≡ Ok tt) × (made 2 (replicate 72 7) ≡ good) × (making 3 good ≡ refused_with 17)
+      × (made 3 headless ≡ headless) × (making 2 (empty 1) ≡ refused_with 2)
   pub carries : (carry_out 2 orders good ≡ Ok tt) × (carried_out 2 orders good ≡ set good 10 5) × (carried_out 0 orders good ≡ good)
-  pub carries-not : (carry_out 3 orders good ≡ refused_with 13) × (carried_out 3 orders good ≡ good) × (carry_out 4 orders good ≡ refused_with 13) × (carry_out 0 orders headless ≡ refused_with 2)
+  pub carries-not : (carry_out 3 orders good ≡ refused_with 13) × (carried_out 3 orders good ≡ good)
+      × (carry_out 4 orders good ≡ refused_with 13) × (carry_out 0 orders headless ≡ refused_with 2)
   pub checks : (checking good ≡ Ok tt) × (checking shared ≡ refused_with 4) × (checking headless ≡ refused_with 2)
   pub reports : (report_out shared (replicate 16 8) ≡ replicate 16 8) × (report_out headless (replicate 16 8) ≡ replicate 16 8)
   -- The sentinels worked out: all words are the table's, or all stay.
-  pub works : (work_out 6 good ≡ Ok tt) × (work_out 5 good ≡ refused_with 19) × (work_out 6 shared ≡ refused_with 4) × (work_out 5 headless ≡ refused_with 2)
-  pub worked : (worked_out (replicate 6 8) good ≡ replicate 6 MARK) × (worked_out (replicate 5 8) good ≡ replicate 5 8) × (worked_out (replicate 6 8) shared ≡ replicate 6 8)
+  pub works : (work_out 6 good ≡ Ok tt) × (work_out 5 good ≡ refused_with 19) × (work_out 6 shared ≡ refused_with 4)
+      × (work_out 5 headless ≡ refused_with 2)
+  pub worked : (worked_out (replicate 6 8) good ≡ replicate 6 MARK) × (worked_out (replicate 5 8) good ≡ replicate 5 8)
+      × (worked_out (replicate 6 8) shared ≡ replicate 6 8)
 
 pub lent-words : LentWords
 unfolding everything

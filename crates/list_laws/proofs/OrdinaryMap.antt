@@ -1,12 +1,8 @@
 -- Entering, leaving and a new class are those of an ordinary map: one key changes, every other key keeps its slot.
-use mathlib.Core.Path.{◌≡◌, refl, sym, ap, ◌∙◌}
-use mathlib.Core.Bool.{Bool, true, false, cond}
-use mathlib.Core.List.{List, [], ◌∷◌, map}
+use Rattle.std.proofs.Common.{◌≡◌, ℕ, Bool, true, false, cond, eqb, ltb, List, [], ◌∷◌, map, sym, refl, ap, ◌∙◌, ne_eqb, eqb-true}
 use mathlib.Core.Option
 use mathlib.Core.Option.{Option, none, some}
-use Prim.Native.Nat.{ℕ}
-use lib.Dec.{eqb, ltb}
-use borrow.Author.Tests.{eqb-true, eqb-false, ne_eqb}
+use borrow.Author.Tests.{eqb-false}
 use Rattle.model.specs.Slots.{Slot, slot, with_class, recording}
 use Rattle.model.specs.Search.{first_with}
 use Rattle.model.specs.Refusals.{has_key}
@@ -23,7 +19,8 @@ front j k r ps = go (eqb k j) refl
     go false e = rw e (first-past j (slot k r) ps (eqb-false k j e))
 
 -- a pair more
-pub enter-first : (j k r : ℕ) (ps : List Slot) → has_key k ps ≡ false → first_with j (enter k r ps) ≡ cond (eqb k j) (some (slot k r)) (first_with j ps)
+pub enter-first : (j k r : ℕ) (ps : List Slot) → has_key k ps ≡ false → first_with j (enter k r ps)
+    ≡ cond (eqb k j) (some (slot k r)) (first_with j ps)
 unfolding enter has_key
 enter-first j k r [] h = front j k r []
 enter-first j k r (s ∷ ps) h = go (ltb k s.key) (eqb s.key j) refl refl (enter-first j k r ps)
@@ -31,7 +28,8 @@ enter-first j k r (s ∷ ps) h = go (ltb k s.key) (eqb s.key j) refl refl (enter
     u : (eqb s.key k ≡ false) × (has_key k ps ≡ false)
     u = (or-false-iff (eqb s.key k) (has_key k ps)).0 h
 
-    go : (b c : Bool) → ltb k s.key ≡ b → eqb s.key j ≡ c → (has_key k ps ≡ false → first_with j (enter k r ps) ≡ cond (eqb k j) (some (slot k r)) (first_with j ps))
+    go : (b c : Bool) → ltb k s.key ≡ b → eqb s.key j ≡ c
+        → (has_key k ps ≡ false → first_with j (enter k r ps) ≡ cond (eqb k j) (some (slot k r)) (first_with j ps))
         → first_with j (enter k r (s ∷ ps)) ≡ cond (eqb k j) (some (slot k r)) (first_with j (s ∷ ps))
     go true c q e ih = rw q (front j k r (s ∷ ps))
     go false true q e ih =
@@ -40,7 +38,8 @@ enter-first j k r (s ∷ ps) h = go (ltb k s.key) (eqb s.key j) refl refl (enter
         rw (q, d) (first-here j s (enter k r ps) o ∙ sym (first-here j s ps o))
     go false false q e ih =
         let o = eqb-false s.key j e in
-        rw q (first-past j s (enter k r ps) o ∙ ih u.1 ∙ ap (λ (x : Option Slot). cond (eqb k j) (some (slot k r)) x) (sym (first-past j s ps o)))
+        rw q (first-past j s (enter k r ps) o ∙ ih u.1
+        ∙ ap (λ (x : Option Slot). cond (eqb k j) (some (slot k r)) x) (sym (first-past j s ps o)))
 
 -- a pair less
 pub leave-first : (j k : ℕ) (ps : List Slot) → first_with j (leave k ps) ≡ cond (eqb k j) none (first_with j ps)
@@ -52,7 +51,8 @@ leave-first j k [] = rw (first-nil j [] tt) (same (eqb k j))
     same false = refl
 leave-first j k (s ∷ ps) = go (eqb s.key k) (eqb k j) (eqb s.key j) refl refl refl (leave-first j k ps)
   where
-    go : (a b c : Bool) → eqb s.key k ≡ a → eqb k j ≡ b → eqb s.key j ≡ c → first_with j (leave k ps) ≡ cond (eqb k j) none (first_with j ps)
+    go : (a b c : Bool) → eqb s.key k ≡ a → eqb k j ≡ b → eqb s.key j ≡ c → first_with j (leave k ps)
+        ≡ cond (eqb k j) none (first_with j ps)
         → first_with j (leave k (s ∷ ps)) ≡ cond (eqb k j) none (first_with j (s ∷ ps))
     go true true c p q e ih = rw (p, q) (ih ∙ rw q refl)
     go true false c p q e ih =
@@ -92,7 +92,8 @@ classed-recording k c s = go (eqb s.key k)
     go false = refl
 
 -- That code then has the class asked for,
-pub reclass-first : (j k c : ℕ) (ps : List Slot) → first_with j (reclass k c ps) ≡ cond (eqb k j) (Option.map (with_class_of c) (first_with j ps)) (first_with j ps)
+pub reclass-first : (j k c : ℕ) (ps : List Slot) → first_with j (reclass k c ps)
+    ≡ cond (eqb k j) (Option.map (with_class_of c) (first_with j ps)) (first_with j ps)
 unfolding reclass
 reclass-first j k c [] = rw (first-nil j [] tt) (same (eqb k j))
   where
@@ -105,8 +106,10 @@ reclass-first j k c (s ∷ ps) = go (eqb s.key j) refl (reclass-first j k c ps)
     here true e = rw e
     here false e = rw e
 
-    go : (d : Bool) → eqb s.key j ≡ d → first_with j (reclass k c ps) ≡ cond (eqb k j) (Option.map (with_class_of c) (first_with j ps)) (first_with j ps)
-        → first_with j (reclass k c (s ∷ ps)) ≡ cond (eqb k j) (Option.map (with_class_of c) (first_with j (s ∷ ps))) (first_with j (s ∷ ps))
+    go : (d : Bool) → eqb s.key j ≡ d → first_with j (reclass k c ps)
+        ≡ cond (eqb k j) (Option.map (with_class_of c) (first_with j ps)) (first_with j ps)
+        → first_with j (reclass k c (s ∷ ps))
+        ≡ cond (eqb k j) (Option.map (with_class_of c) (first_with j (s ∷ ps))) (first_with j (s ∷ ps))
     go true e ih =
         let o = eqb-true s.key j e in
         let q : eqb s.key k ≡ eqb k j = ap (λ (n : ℕ). eqb n k) o ∙ eqb-sym j k in
@@ -121,6 +124,7 @@ unfolding reclass
 reclass-keys k c [] = refl
 reclass-keys k c (s ∷ ps) = rw (classed-key k c s, reclass-keys k c ps)
 
+-- a class change keeps the recording numbers of the pairs
 pub reclass-recordings : (k c : ℕ) (ps : List Slot) → map recording (reclass k c ps) ≡ map recording ps
 unfolding reclass
 reclass-recordings k c [] = refl

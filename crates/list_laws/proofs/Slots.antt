@@ -1,12 +1,5 @@
 -- Lists of slots: those in use, those shown, and the place of a key.
-use mathlib.Core.Path.{◌≡◌, refl}
-use mathlib.Core.Bool.{Bool, true, false}
-use mathlib.Core.Logic.{◌≢◌}
-use mathlib.Core.List.{List, [], ◌∷◌}
-use Prim.Native.Nat.{ℕ, ◌*◌, ◌/◌, ◌≤◌}
-use native.Mathlib.Omega.{arith}
-use lib.Dec.{eqb, ltb}
-use lib.ListN.{length}
+use Rattle.std.proofs.Common.{◌≡◌, ℕ, ◌*◌, ◌/◌, ◌≤◌, Bool, true, false, eqb, ltb, ◌≢◌, List, [], ◌∷◌, length, refl, arith}
 use borrow.Author.Tests.{eqb-false}
 use Rattle.model.specs.Table.{Words}
 use Rattle.model.specs.Slots.{Slot, slots_of, slot_words, in_use, shown}
@@ -19,7 +12,8 @@ unfolding in_use
 in-use-some [] = tt
 in-use-some (s ∷ ss) = go (eqb s.pointer 0) refl (in-use-some ss)
   where
-    go : (b : Bool) → eqb s.pointer 0 ≡ b → Each (λ (s : Slot). s.pointer ≢ 0) (in_use ss) → Each (λ (s : Slot). s.pointer ≢ 0) (in_use (s ∷ ss))
+    go : (b : Bool) → eqb s.pointer 0 ≡ b → Each (λ (s : Slot). s.pointer ≢ 0) (in_use ss)
+        → Each (λ (s : Slot). s.pointer ≢ 0) (in_use (s ∷ ss))
     go true c ih = rw (c, in_use) tt
     go false c ih = rw (c, in_use) (eqb-false s.pointer 0 c, ih)
 
@@ -48,6 +42,7 @@ pub length-pairs : (ss : List Slot) → length (slot_words ss) ≡ 2 * length ss
 length-pairs [] = refl
 length-pairs (s ∷ ss) = omega (arith, length-pairs ss)
 
+-- words are half as many slots, rounded down
 pub pairs-count : (ws : Words) → length (slots_of ws) ≡ length ws / 2
 unfolding slots_of
 pairs-count [] = refl

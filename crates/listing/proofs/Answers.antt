@@ -1,10 +1,5 @@
 -- What a listing answers and leaves, from the tests in their order.
-use mathlib.Core.Path.{◌≡◌, refl, sym, ◌∙◌}
-use mathlib.Core.Bool.{Bool, true, false, cond}
-use mathlib.Core.Logic.{◌≢◌}
-use Prim.Native.Nat.{ℕ}
-use native.Mathlib.Omega.{arith}
-use borrow.Author.Tests.{ne_eqb}
+use Rattle.std.proofs.Common.{◌≡◌, ℕ, Bool, true, false, cond, ◌≢◌, sym, refl, ◌∙◌, arith, ne_eqb}
 use Rattle.std.specs.Prelude.{Ok}
 use Rattle.model.specs.Results.{Listed, refused_with, page_with}
 use Rattle.model.specs.Table.{Words, at, root_word, header_ok, no_collection}
@@ -35,7 +30,8 @@ module _ (i : ℕ) (t : Words) (low high : ℕ) (out : Words) where
   unfolding list_number number_in
   no-collection z = refused (number_in i t) (go (header_ok t) (no_collection i t) z) z
     where
-      go : (a b : Bool) → cond {A = ℕ} a (cond b 17 0) 2 ≢ 0 → ◌≡◌ {A = ℕ} (cond a (cond b 17 0) 2) (cond a (cond b 17 (cond (sound t) 0 4)) 2)
+      go : (a b : Bool) → cond {A = ℕ} a (cond b 17 0) 2 ≢ 0
+          → ◌≡◌ {A = ℕ} (cond a (cond b 17 0) 2) (cond a (cond b 17 (cond (sound t) 0 4)) 2)
       go true true q = refl
       go true false q = absurd (q refl)
       go false b q = refl

@@ -1,10 +1,6 @@
 -- The leaves of a listing: from one on, one by one, as long as a pair of the range may follow.
-use mathlib.Core.Path.{◌≡◌, refl, ap, sym, ◌∙◌}
-use mathlib.Core.Bool.{Bool, true, false, ◌&&◌}
-use mathlib.Core.List.{List, [], ◌∷◌, ◌++◌}
-use Prim.Native.Nat.{ℕ, zero, suc, ◌≤◌, ◌<◌}
-use lib.Dec.{leb, ltb, eqb}
-use borrow.Author.Tests.{lt-ltb, le-ltb}
+use Rattle.std.proofs.Common.{◌≡◌, ℕ, zero, suc, ◌<◌, ◌≤◌, Bool, true, false, ◌&&◌, eqb, ltb, leb, List, [], ◌∷◌, ◌++◌, sym, refl, ap, ◌∙◌}
+use Rattle.std.proofs.Common.{le-ltb, lt-ltb}
 use Rattle.model.specs.declared.Node.{Node}
 use Rattle.model.specs.Table.{Words, root, nodes, node}
 use Rattle.model.specs.Slots.{Slot, View, node_view, view_from, view, used}
@@ -31,19 +27,22 @@ unfolding filter
 filter-both p q [] = refl
 filter-both {A = A} p q (x ∷ xs) = go (q x) (p x) refl refl (filter-both p q xs)
   where
-    go : (a b : Bool) → q x ≡ a → p x ≡ b → filter p (filter q xs) ≡ filter (λ (x : A). q x && p x) xs → filter p (filter q (x ∷ xs)) ≡ filter (λ (x : A). q x && p x) (x ∷ xs)
+    go : (a b : Bool) → q x ≡ a → p x ≡ b → filter p (filter q xs) ≡ filter (λ (x : A). q x && p x) xs → filter p (filter q (x ∷ xs))
+        ≡ filter (λ (x : A). q x && p x) (x ∷ xs)
     go true true c d ih = rw (c, filter) (rw (d, filter) (ap (λ (l : List A). x ∷ l) ih))
     go true false c d ih = rw (c, filter) (rw (d, filter) ih)
     go false b c d ih = rw (c, filter) ih
 
 -- x is node n as the code has read it, b its sibling's fence
 leaf-pairs : (t : Words) (r low high n : ℕ) (x : Node) (b : ℕ) → x ≡ node t n → b ≡ word_of t x.sibling 3
-    → wanted (record { low = low; high = high; sibling = x.sibling; bound = b }) (shown_from x.left x.slots 0) ≡ in_range_of low high (kept (view_from t r) n)
+    → wanted (record { low = low; high = high; sibling = x.sibling; bound = b }) (shown_from x.left x.slots 0)
+    ≡ in_range_of low high (kept (view_from t r) n)
 unfolding wanted wants in_range_of kept used below keeps
 leaf-pairs t r low high n x b q e =
     let f : b ≡ (node_view t x.sibling).fence = e ∙ word-fence t x.sibling in
     ap (λ (w : ℕ). wanted (record { low = low; high = high; sibling = x.sibling; bound = w }) (shown_from x.left x.slots 0)) f
-    ∙ ap (λ (y : Node). wanted (record { low = low; high = high; sibling = y.sibling; bound = (node_view t y.sibling).fence }) (shown_from y.left y.slots 0)) q
+    ∙ ap (λ (y : Node). wanted (record { low = low; high = high; sibling = y.sibling; bound = (node_view t y.sibling).fence })
+    (shown_from y.left y.slots 0)) q
     ∙ sym (filter-both (λ (s : Slot). leb low s.key && leb s.key high) (λ (s : Slot). within (view_from t r) n s.key) (node_view t n).shown)
 
 -- ---- the leaves along the siblings
@@ -74,10 +73,12 @@ module _ (t : Words) (low high : ℕ) where
   pub record Ahead (ns : List ℕ) (x end : Sheet) : Type 0 where
     pub rest : all_taken (pairs_of (view t) low high ns) x ≡ end
 
-  pub ahead-first : (n c : ℕ) (ns : List ℕ) (x : Sheet) → c ≡ nodes t → ns ≡ along (view t) c n → Ahead ns x (all_taken (pairs_from (view t) low high n) x)
+  pub ahead-first : (n c : ℕ) (ns : List ℕ) (x : Sheet) → c ≡ nodes t → ns ≡ along (view t) c n
+      → Ahead ns x (all_taken (pairs_from (view t) low high n) x)
   ahead-first n c ns x f q =
       let v = view t in
-      let whole : up_to v high ns ≡ leaves_up_to v high (nodes t) n = ap (up_to v high) q ∙ ap (λ (k : ℕ). up_to v high (along v k n)) f ∙ sym (up-along v high (nodes t) n) in
+      let whole : up_to v high ns ≡ leaves_up_to v high (nodes t) n =
+      ap (up_to v high) q ∙ ap (λ (k : ℕ). up_to v high (along v k n)) f ∙ sym (up-along v high (nodes t) n) in
       record { rest = ap (λ (ms : List ℕ). all_taken (in_range_of low high (flat (kept v) ms)) x) whole }
 
   pub ahead-end : (ns : List ℕ) (x end : Sheet) → Ahead ns x end → ns ≡ [] → x ≡ end
@@ -95,18 +96,22 @@ module _ (t : Words) (low high : ℕ) where
     ahead-past f =
         let past : ltb high (node_view t n).fence ≡ true = lt-ltb high (node_view t n).fence (rw q at f) in
         let none : up_to (view t) high (n ∷ later) ≡ [] = rw (past, up_to) refl in
-        sym (ap (λ (ms : List ℕ). all_taken (pairs_of (view t) low high ms) x) z ∙ ap (λ (ms : List ℕ). all_taken (in_range_of low high (flat (kept (view t)) ms)) x) none) ∙ a.rest
+        sym (ap (λ (ms : List ℕ). all_taken (pairs_of (view t) low high ms) x) z
+        ∙ ap (λ (ms : List ℕ). all_taken (in_range_of low high (flat (kept (view t)) ms)) x) none) ∙ a.rest
 
     pub ahead-next : (b : ℕ) (y : Sheet) → m.fence ≤ high → b ≡ word_of t m.sibling 3
-        → y ≡ all_taken (wanted (record { low = low; high = high; sibling = m.sibling; bound = b }) (shown_from m.left m.slots 0)) x → Ahead later y end
+        → y ≡ all_taken (wanted (record { low = low; high = high; sibling = m.sibling; bound = b }) (shown_from m.left m.slots 0)) x
+        → Ahead later y end
     unfolding flat up_to
     ahead-next b y f e w =
         let v = view t in
         let more : ltb high (node_view t n).fence ≡ false = le-ltb high (node_view t n).fence (rw q at f) in
         let some : up_to v high (n ∷ later) ≡ n ∷ up_to v high later = rw (more, up_to) refl in
-        let here : y ≡ all_taken (in_range_of low high (kept v n)) x = w ∙ ap (λ (ss : List Slot). all_taken ss x) (leaf-pairs t (root t) low high n m b q e) in
+        let here : y ≡ all_taken (in_range_of low high (kept v n)) x =
+        w ∙ ap (λ (ss : List Slot). all_taken ss x) (leaf-pairs t (root t) low high n m b q e) in
         let parts : pairs_of v low high (n ∷ later) ≡ in_range_of low high (kept v n) ++ pairs_of v low high later =
-        ap (λ (ms : List ℕ). in_range_of low high (flat (kept v) ms)) some ∙ range-append low high (kept v n) (flat (kept v) (up_to v high later)) in
+        ap (λ (ms : List ℕ). in_range_of low high (flat (kept v) ms)) some
+        ∙ range-append low high (kept v n) (flat (kept v) (up_to v high later)) in
         record {
           rest = ap (all_taken (pairs_of v low high later)) here
               ∙ sym (ap (λ (ms : List ℕ). all_taken (pairs_of v low high ms) x) z ∙ ap (λ (ss : List Slot). all_taken ss x) parts

@@ -1,15 +1,8 @@
 -- Pairs taken one by one come to what the definitions of a listing say; pairs taken in parts, and when no further one is written.
-use mathlib.Core.Path.{◌≡◌, refl, ap, sym, ◌∙◌}
-use mathlib.Core.Bool.{Bool, true, false, cond}
-use mathlib.Core.List.{List, [], ◌∷◌, ◌++◌, append_assoc, append-nil}
-use Prim.Native.Nat.{ℕ, ◌+◌, ◌*◌, ◌/◌, ◌≤◌, ◌<◌}
-use native.Mathlib.Numerals.{add-one}
-use native.Mathlib.Nat.{div-mul-le_self}
-use native.Mathlib.Omega.{arith}
-use lib.Dec.{leb, ltb}
-use lib.ListN.{length, take, drop, set, length-append, length-drop}
-use lib.Seq.{length-take-le, take_all, take-append-le, take_at, drop_at, drop-drop, sets-eq}
-use borrow.Author.Tests.{lt-ltb, le-ltb, leb-true, leb-false}
+use Rattle.std.proofs.Common.{◌≡◌, ℕ, ◌+◌, ◌*◌, ◌/◌, ◌<◌, ◌≤◌, Bool, true, false, cond, ltb, leb, List, [], ◌∷◌, ◌++◌, length, take, drop}
+use Rattle.std.proofs.Common.{set, sym, refl, ap, ◌∙◌, append_assoc, append-nil, div-mul-le_self, add-one, arith, length-append}
+use Rattle.std.proofs.Common.{length-drop, length-take-le, take_all, drop-drop, take_at, drop_at, le-ltb, lt-ltb, leb-false, leb-true}
+use lib.Seq.{take-append-le, sets-eq}
 use Rattle.model.specs.Table.{Words}
 use Rattle.model.specs.Slots.{Slot, slot_words}
 use Rattle.model.specs.Results.{page_with}
@@ -22,7 +15,11 @@ use Rattle.listing.proofs.Steps.{pair-left, pair-written}
 -- the sheet after pairs, by the definitions
 abbrev pub after : List Slot → Words → Sheet
 after ss out =
-    record { words = listed_words ss out; count = length (fitting (length out) ss); more = ltb (length (fitting (length out) ss)) (length ss) }
+    record {
+      words = listed_words ss out;
+      count = length (fitting (length out) ss);
+      more = ltb (length (fitting (length out) ss)) (length ss);
+    }
 
 pairs-append : (a b : List Slot) → slot_words (a ++ b) ≡ slot_words a ++ slot_words b
 pairs-append [] b = refl
@@ -30,10 +27,13 @@ pairs-append (s ∷ a) b = ap (λ (ws : Words). s.key ∷ s.pointer ∷ ws) (pai
 
 -- pairs that fit leave the slice its length
 length-kept : (ss : List Slot) (out : Words) → length ss ≤ length out / 2 → length (slot_words ss ++ drop (2 * length ss) out) ≡ length out
-length-kept ss out h = length-append (slot_words ss) (drop (2 * length ss) out) ∙ omega (arith, length-pairs ss, length-drop (2 * length ss) out, div-mul-le_self (length out) 2)
+length-kept ss out h =
+    length-append (slot_words ss) (drop (2 * length ss) out)
+    ∙ omega (arith, length-pairs ss, length-drop (2 * length ss) out, div-mul-le_self (length out) 2)
 
 -- while all pairs fit
-after-few : (ss : List Slot) (out : Words) → length ss ≤ length out / 2 → after ss out ≡ record { words = slot_words ss ++ drop (2 * length ss) out; count = length ss; more = false }
+after-few : (ss : List Slot) (out : Words) → length ss ≤ length out / 2 → after ss out
+    ≡ record { words = slot_words ss ++ drop (2 * length ss) out; count = length ss; more = false }
 unfolding listed_words
 after-few ss out h = rw (take_all (length out / 2) ss h, le-ltb (length ss) (length ss) (omega arith))
 
@@ -48,28 +48,32 @@ module _ (ss : List Slot) (out : Words) (s : Slot) where
   longer = length-append ss (s ∷ [])
 
   -- two words stored after those of the pairs before them
-  store-pair : length ss < most → set (set (slot_words ss ++ drop (2 * length ss) out) (2 * length ss) s.key) (2 * length ss + 1) s.pointer ≡ slot_words all ++ drop (2 * length all) out
+  store-pair : length ss < most → set (set (slot_words ss ++ drop (2 * length ss) out) (2 * length ss) s.key) (2 * length ss + 1) s.pointer
+      ≡ slot_words all ++ drop (2 * length all) out
   store-pair h =
       let n = 2 * length ss in
       let l = slot_words ss ++ drop n out in
       let pair = s.key ∷ s.pointer ∷ [] in
       let fits : n + 2 ≤ length l = omega (arith, length-kept ss out (omega arith), div-mul-le_self (length out) 2) in
       let head : take n l ≡ slot_words ss = take_at (slot_words ss) (drop n out) n (length-pairs ss) in
-      let past : drop (n + 2) l ≡ drop (n + 2) out = sym (drop-drop 2 n l) ∙ ap (drop 2) (drop_at (slot_words ss) (drop n out) n (length-pairs ss)) ∙ drop-drop 2 n out in
+      let past : drop (n + 2) l ≡ drop (n + 2) out =
+      sym (drop-drop 2 n l) ∙ ap (drop 2) (drop_at (slot_words ss) (drop n out) n (length-pairs ss)) ∙ drop-drop 2 n out in
       let end : 2 * length all ≡ n + 2 = omega (arith, longer) in
       ap (λ (j : ℕ). set (set l n s.key) j s.pointer) (add-one n) ∙ sets-eq pair l n fits ∙ rw (head, past, pairs-append ss (s ∷ []), end)
 
   next-fits : length ss < most → taken s (after ss out) ≡ after all out
   next-fits h =
       let more : length all ≤ most = omega (arith, longer) in
-      ap (taken s) (after-few ss out (omega arith)) ∙ sym (pair-written s _ (omega (arith, length-kept ss out (omega arith)))) ∙ rw (store-pair h, ← longer) (sym (after-few all out more))
+      ap (taken s) (after-few ss out (omega arith)) ∙ sym (pair-written s _ (omega (arith, length-kept ss out (omega arith))))
+      ∙ rw (store-pair h, ← longer) (sym (after-few all out more))
 
   next-left : most ≤ length ss → taken s (after ss out) ≡ after all out
   unfolding listed_words
   next-left h =
       let count : length (fitting (length out) ss) ≡ most = length-take-le most ss h in
       let same : fitting (length out) all ≡ fitting (length out) ss = take-append-le most ss (s ∷ []) h in
-      let more : ltb (length (fitting (length out) ss)) (length all) ≡ true = lt-ltb (length (fitting (length out) ss)) (length all) (omega (arith, longer)) in
+      let more : ltb (length (fitting (length out) ss)) (length all) ≡ true =
+      lt-ltb (length (fitting (length out) ss)) (length all) (omega (arith, longer)) in
       sym (pair-left s (after ss out) (omega (arith, length-kept (fitting (length out) ss) out (omega arith)))) ∙ rw (same, more)
 
   next : taken s (after ss out) ≡ after all out
@@ -84,16 +88,19 @@ taken-after : (ps ss : List Slot) (out : Words) → all_taken ps (after ss out) 
 unfolding all_taken
 taken-after [] ss out = ap (λ (l : List Slot). after l out) (sym (append-nil ss))
 taken-after (s ∷ ps) ss out =
-    ap (all_taken ps) (next ss out s) ∙ taken-after ps (ss ++ s ∷ []) out ∙ ap (λ (l : List Slot). after l out) (append_assoc ss (s ∷ []) ps)
+    ap (all_taken ps) (next ss out s) ∙ taken-after ps (ss ++ s ∷ []) out
+    ∙ ap (λ (l : List Slot). after l out) (append_assoc ss (s ∷ []) ps)
 
 -- all the pairs of a listing
 taken-all : (ps : List Slot) (out : Words) → all_taken ps (begun out) ≡ after ps out
 taken-all ps out = ap (all_taken ps) (sym (after-few [] out (omega arith))) ∙ taken-after ps [] out
 
 -- answer and slice are then the definitions'
-pub all-listed : (ps : List Slot) (out u : Words) (p : Page) → sheet u p ≡ all_taken ps (begun out) → (page_with p.count p.more ≡ listed ps (length out)) × (u ≡ listed_words ps out)
+pub all-listed : (ps : List Slot) (out u : Words) (p : Page) → sheet u p ≡ all_taken ps (begun out)
+    → (page_with p.count p.more ≡ listed ps (length out)) × (u ≡ listed_words ps out)
 unfolding listed
-all-listed ps out u p w = let all = w ∙ taken-all ps out in (ap (λ (x : Sheet). page_with x.count x.more) all, ap (λ (x : Sheet). x.words) all)
+all-listed ps out u p w = let all =
+    w ∙ taken-all ps out in (ap (λ (x : Sheet). page_with x.count x.more) all, ap (λ (x : Sheet). x.words) all)
 
 -- ---- pairs taken in parts
 
@@ -128,5 +135,6 @@ pub spent-stop : (ss : List Slot) (x : Sheet) → Spent x → x.more ≡ true �
 unfolding all_taken
 spent-stop [] x h m = refl
 spent-stop (s ∷ ss) x h m =
-    let same : taken s x ≡ x = sym (pair-left s x (h m)) ∙ ap (λ (b : Bool). record { words = x.words; count = x.count; more = b }) (sym m) in
+    let same : taken s x ≡ x =
+    sym (pair-left s x (h m)) ∙ ap (λ (b : Bool). record { words = x.words; count = x.count; more = b }) (sym m) in
     ap (all_taken ss) same ∙ spent-stop ss x h m

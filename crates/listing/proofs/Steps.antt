@@ -1,11 +1,7 @@
 -- What one more pair or slot does to a listing, as the code meets it.
-use mathlib.Core.Path.{◌≡◌, refl, ap, sym, ◌∙◌}
-use mathlib.Core.Bool.{Bool, true, false, cond, not, ◌&&◌}
-use mathlib.Core.List.{List, [], ◌∷◌}
-use Prim.Native.Nat.{ℕ, ◌/◌, ◌≤◌, ◌<◌}
-use lib.Dec.{eqb}
-use lib.ListN.{length}
-use borrow.Author.Tests.{le-leb, lt-leb}
+use Rattle.std.proofs.Common.{◌≡◌, ℕ, ◌/◌, ◌<◌, ◌≤◌, Bool, true, false, cond, not, ◌&&◌, eqb, List, [], ◌∷◌, length, sym, refl, ap, ◌∙◌}
+use Rattle.std.proofs.Common.{le-leb}
+use borrow.Author.Tests.{lt-leb}
 use Rattle.model.specs.Slots.{Slot, slot, shown}
 use Rattle.model.specs.Reached.{filter}
 use Rattle.slots.proofs.Scans.{picked}
@@ -26,10 +22,12 @@ pair-written s x h = ap (λ (b : Bool). cond b (passed x) (written s x)) (sym (l
 
 module _ (w : Window) (before k p : ℕ) (x : Sheet) where
   -- the slots of a leaf, one more: what is left to take, from the present sheet
-  pub slots-more : (y : Sheet) (ss : List Slot) → y ≡ slot_taken w before k p x → all_taken (wanted w (shown before (slot k p ∷ ss))) x ≡ all_taken (wanted w (shown p ss)) y
+  pub slots-more : (y : Sheet) (ss : List Slot) → y ≡ slot_taken w before k p x → all_taken (wanted w (shown before (slot k p ∷ ss))) x
+      ≡ all_taken (wanted w (shown p ss)) y
   unfolding wanted all_taken slot_taken
   slots-more y ss q =
-      ap (λ (l : List Slot). all_taken l x) (picked (λ (s : Slot). wants w s.key) before (slot k p) ss) ∙ go (not (eqb p before) && wants w k) ∙ ap (all_taken rest) (sym q)
+      ap (λ (l : List Slot). all_taken l x) (picked (λ (s : Slot). wants w s.key) before (slot k p) ss)
+      ∙ go (not (eqb p before) && wants w k) ∙ ap (all_taken rest) (sym q)
     where
       rest : List Slot
       rest = wanted w (shown p ss)

@@ -1,13 +1,7 @@
 -- Demand 2, proved: on every sound table search, listing, insertion, deletion and class change agree with an ordinary map.
-use mathlib.Core.Path.{◌≡◌, refl, ap, ◌∙◌}
-use mathlib.Core.Logic.{◌≢◌, ◌↔◌}
-use mathlib.Core.Bool.{Bool, true, false, cond}
-use mathlib.Core.List.{List, Memᴰ}
+use Rattle.std.proofs.Common.{◌≡◌, ℕ, Bool, true, false, cond, eqb, ◌≢◌, ◌↔◌, List, refl, ap, ◌∙◌, arith, eq-eqb, ne_eqb}
+use mathlib.Core.List.{Memᴰ}
 use mathlib.Core.Option.{Option, none, some}
-use Prim.Native.Nat.{ℕ}
-use native.Mathlib.Omega.{arith}
-use lib.Dec.{eqb}
-use borrow.Author.Tests.{eq-eqb, ne_eqb}
 use Rattle.model.specs.declared.Answer.TheVariants.{Found, Absent}
 use Rattle.model.specs.Table.{Words, at, no_collection}
 use Rattle.model.specs.Slots.{Slot, recording, class, pointer_of, view_of}
@@ -51,10 +45,12 @@ found-to k r c ps e = go (first_with k ps) (λ s q. first-mem k s ps q) e
     go none m q = let z : ◌≡◌ {A = ℕ} 0 1 = cc in absurd (omega arith)
     go (some s) m q = let a : recording s ≡ r = cc in let b : class s ≡ c = cc in (s, (m s refl).0, (m s refl).1, a, b)
 
-found-from : (k r c : ℕ) (ps : List Slot) → rising 0 ps ≡ true → (s : Slot) × Memᴰ s ps × (s.key ≡ k) × (recording s ≡ r) × (class s ≡ c) → lookup k ps ≡ Found r c
+found-from : (k r c : ℕ) (ps : List Slot) → rising 0 ps ≡ true → (s : Slot) × Memᴰ s ps × (s.key ≡ k) × (recording s ≡ r) × (class s ≡ c)
+    → lookup k ps ≡ Found r c
 found-from k r c ps h (s, m, e, a, b) = rw (← e, ← a, ← b) ((found-iff 0 s.key s.pointer ps h).1 m)
 
-absent-is : (k : ℕ) (x : Next) (ps : List Slot) → rising 0 ps ≡ true → (lookup k ps ≡ Absent x) ↔ (((s : Slot) → Memᴰ s ps → s.key ≢ k) × IsNext k ps x)
+absent-is : (k : ℕ) (x : Next) (ps : List Slot) → rising 0 ps ≡ true
+    → (lookup k ps ≡ Absent x) ↔ (((s : Slot) → Memᴰ s ps → s.key ≢ k) × IsNext k ps x)
 absent-is k x ps h =
     let least = next-least 0 k ps h in (
       λ e. let u = (absent-iff k x ps).0 e in (λ s m. each-mem (λ (y : Slot). y.key ≡ k → ⊥) u.0 m, rw u.1 least),
@@ -76,11 +72,16 @@ module _ (t t' : Words) where
       (λ z. two-there (eqb (at t' 3) 0) (map_of 2 t') (map_of 2 t) (ap (λ (x : Maps). x.two) e ∙ rw (ne_eqb (at t 3) 0 z))) n h
 
   -- the map of collection m changes by f, and it alone
-  map-after : (f : List Slot → List Slot) (m n : ℕ) → no_collection m t ≡ false → no_collection n t ≡ false → maps_of t' ≡ on_map m f (maps_of t) → map_of n t' ≡ cond (eqb m n) (f (map_of n t)) (map_of n t)
+  map-after : (f : List Slot → List Slot) (m n : ℕ) → no_collection m t ≡ false → no_collection n t ≡ false → maps_of t'
+      ≡ on_map m f (maps_of t) → map_of n t' ≡ cond (eqb m n) (f (map_of n t)) (map_of n t)
   unfolding maps_of on_map
   map-after f m n i h =
-      by-number t (λ (j : ℕ). Goal j n) (by-number t (Goal 1) (λ e. ap (λ (x : Maps). x.one) e) (λ z e. two-there (eqb (at t' 3) 0) (map_of 2 t') (map_of 2 t) (ap (λ (x : Maps). x.two) e ∙ rw (ne_eqb (at t 3) 0 z))) n h)
-      (λ y. by-number t (Goal 2) (λ e. ap (λ (x : Maps). x.one) e) (λ z e. two-there (eqb (at t' 3) 0) (map_of 2 t') (f (map_of 2 t)) (ap (λ (x : Maps). x.two) e ∙ rw (ne_eqb (at t 3) 0 z))) n h) m i
+      by-number t (λ (j : ℕ). Goal j n)
+      (by-number t (Goal 1) (λ e. ap (λ (x : Maps). x.one) e)
+      (λ z e. two-there (eqb (at t' 3) 0) (map_of 2 t') (map_of 2 t) (ap (λ (x : Maps). x.two) e ∙ rw (ne_eqb (at t 3) 0 z))) n h)
+      (λ y. by-number t (Goal 2) (λ e. ap (λ (x : Maps). x.one) e)
+      (λ z e. two-there (eqb (at t' 3) 0) (map_of 2 t') (f (map_of 2 t)) (ap (λ (x : Maps). x.two) e ∙ rw (ne_eqb (at t 3) 0 z))) n h) m
+      i
     where
       Goal : (j n : ℕ) → Type 0
       Goal j n = maps_of t' ≡ on_map j f (maps_of t) → map_of n t' ≡ cond (eqb j n) (f (map_of n t)) (map_of n t)
@@ -99,7 +100,8 @@ module _ (n : ℕ) (t : Words) (q : Sound t) (h : no_collection n t ≡ false) w
   is-map x =
       let w = view_of n t in
       let u = map-same w (sl.sound-orderly w v) x in
-      let p : (m : ℕ) → Memᴰ x (kept w m) ↔ (Memᴰ x (w.node m).shown × (within w m x.key ≡ true)) = λ m. unfold kept in mem-filter (λ (y : Slot). within w m y.key) x (w.node m).shown in (
+      let p : (m : ℕ) → Memᴰ x (kept w m) ↔ (Memᴰ x (w.node m).shown × (within w m x.key ≡ true)) =
+      λ m. unfold kept in mem-filter (λ (y : Slot). within w m y.key) x (w.node m).shown in (
         λ m. let (j, a, b, c) = u.0 m in (j, a, b, ((p j).0 c).0, ((p j).0 c).1),
         λ m. let (j, a, b, c, d) = m in u.1 (j, a, b, (p j).1 (c, d)),
       )
@@ -112,28 +114,38 @@ module _ (n : ℕ) (t : Words) (q : Sound t) (h : no_collection n t ≡ false) w
   unfolding table_after
   maps x words dock ok = rw ok (accepted-steps x words dock t s ok).all-map
 
-  judged : (x : Call) (words dock : ℕ) → Names n x → refusal x words dock t ≡ first_number (tests_from18 x words dock (eleven_in x (repaired t)) (ten_in x (repaired t)) (map_of n t))
+  judged : (x : Call) (words dock : ℕ) → Names n x → refusal x words dock t
+      ≡ first_number (tests_from18 x words dock (eleven_in x (repaired t)) (ten_in x (repaired t)) (map_of n t))
   judged (insertion m k r c) words dock e = rw e (number-on-sound (insertion n k r c) words dock t s h)
   judged (deletion m k) words dock e = rw e (number-on-sound (deletion n k) words dock t s h)
   judged (class_change m k c) words dock e = rw e (number-on-sound (class_change n k c) words dock t s h)
   judged repair words dock e = absurd e
 
-  own-after : (x : Call) (f : List Slot → List Slot) (words dock : ℕ) → refusal x words dock t ≡ 0 → change x (maps_of t) ≡ on_map n f (maps_of t)
+  own-after : (x : Call) (f : List Slot → List Slot) (words dock : ℕ) → refusal x words dock t ≡ 0 → change x (maps_of t)
+      ≡ on_map n f (maps_of t)
       → map_of n (table_after x words dock t) ≡ f (map_of n t)
   own-after x f words dock ok c = rw (eq-eqb n n refl) at (map-after t (table_after x words dock t) f n n h h (maps x words dock ok ∙ c))
 
-  other-after : (x : Call) (m : ℕ) (f : List Slot → List Slot) (words dock : ℕ) → refusal x words dock t ≡ 0 → change x (maps_of t) ≡ on_map m f (maps_of t) → no_collection m t ≡ false → (m ≡ n → ⊥)
+  other-after : (x : Call) (m : ℕ) (f : List Slot → List Slot) (words dock : ℕ) → refusal x words dock t ≡ 0 → change x (maps_of t)
+      ≡ on_map m f (maps_of t) → no_collection m t ≡ false → (m ≡ n → ⊥)
       → map_of n (table_after x words dock t) ≡ map_of n t
-  other-after x m f words dock ok c i z = rw (ne_eqb m n z) at (map-after t (table_after x words dock t) f m n i h (maps x words dock ok ∙ c))
+  other-after x m f words dock ok c i z =
+      rw (ne_eqb m n z) at (map-after t (table_after x words dock t) f m n i h (maps x words dock ok ∙ c))
 
   keeps : (x : Call) (words dock : ℕ) → refusal x words dock t ≡ 0 → (Names n x → ⊥) → map_of n (table_after x words dock t) ≡ map_of n t
-  keeps (insertion m k r c) words dock ok z = other-after (insertion m k r c) m (enter k (pointer_of r c)) words dock ok refl ((accepted-iff (insertion m k r c) words dock t).0 ok).collection z
-  keeps (deletion m k) words dock ok z = other-after (deletion m k) m (leave k) words dock ok refl ((accepted-iff (deletion m k) words dock t).0 ok).collection z
-  keeps (class_change m k c) words dock ok z = other-after (class_change m k c) m (reclass k c) words dock ok refl ((accepted-iff (class_change m k c) words dock t).0 ok).collection z
+  keeps (insertion m k r c) words dock ok z =
+      other-after (insertion m k r c) m (enter k (pointer_of r c)) words dock ok refl
+      ((accepted-iff (insertion m k r c) words dock t).0 ok).collection z
+  keeps (deletion m k) words dock ok z =
+      other-after (deletion m k) m (leave k) words dock ok refl ((accepted-iff (deletion m k) words dock t).0 ok).collection z
+  keeps (class_change m k c) words dock ok z =
+      other-after (class_change m k c) m (reclass k c) words dock ok refl
+      ((accepted-iff (class_change m k c) words dock t).0 ok).collection z
   keeps repair words dock ok z = map-same-after t (table_after repair words dock t) n h (maps repair words dock ok)
 
   lists : (low high : ℕ) (out : Words) → Listing (map_of n t) low high out (list n t low high out) (list_out n t low high out)
-  lists low high out = rw (by_map.list-law n t s h low high out, by_map.list-out-law n t s h low high out) (list-law (map_of n t) low high out rises)
+  lists low high out =
+      rw (by_map.list-law n t s h low high out, by_map.list-out-law n t s h low high out) (list-law (map_of n t) low high out rises)
 
 -- Every collection of every sound table.
 pub demand2 : (n : ℕ) (t : Words) → Sound t → no_collection n t ≡ false → Demand2 n t
@@ -148,7 +160,8 @@ demand2 n t q h =
       absent = λ k x. rw (by k) (absent-is k x m r);
       answers = λ k j. rw (by k) (lookup-answers k j m);
       lists = lists n t q h;
-      inserts = λ k r' c words dock ok x. rw (own-after n t q h (insertion n k r' c) (enter k (pointer_of r' c)) words dock ok refl) (mem-enter k (pointer_of r' c) x m);
+      inserts = λ k r' c words dock ok x. rw (own-after n t q h (insertion n k r' c) (enter k (pointer_of r' c)) words dock ok refl)
+          (mem-enter k (pointer_of r' c) x m);
       deletes = λ k words dock ok x. rw (own-after n t q h (deletion n k) (leave k) words dock ok refl) (mem-leave k x m);
       reclasses = λ k c words dock ok x. rw (own-after n t q h (class_change n k c) (reclass k c) words dock ok refl) (mem-reclass k c x m);
       keeps = keeps n t q h;

@@ -1,15 +1,10 @@
 -- A call's number goes by its own tree and the count of free nodes: on views that agree on the reached nodes all is the same that it reads.
-use mathlib.Core.Path.{◌≡◌, refl, sym, ap, ◌∙◌}
-use mathlib.Core.Logic.{◌≢◌, ◌⊎◌, inl, inr}
-use mathlib.Core.Bool.{Bool, true, false, cond, ◌&&◌, ◌||◌}
-use mathlib.Core.List.{List, [], ◌∷◌, Memᴰ}
+use Rattle.std.proofs.Common.{◌≡◌, ℕ, zero, suc, ◌+◌, ◌-◌, ◌≤◌, Bool, true, false, cond, ◌&&◌, ◌||◌, eqb, ltb, leb, ◌≢◌, ◌⊎◌, List, [], ◌∷◌}
+use Rattle.std.proofs.Common.{length, get_or, sym, refl, ap, ◌∙◌, inl, inr, arith, ext_get_or, ltb-false, ltb-true, le-ltb, lt-ltb, eq-eqb}
+use Rattle.std.proofs.Common.{leb-true}
+use mathlib.Core.List.{Memᴰ}
 use mathlib.Core.Option.{Option}
-use Prim.Native.Nat.{ℕ, zero, suc, ◌+◌, ◌-◌, ◌≤◌}
-use native.Mathlib.Omega.{arith}
-use lib.Dec.{eqb, leb, ltb}
-use lib.ListN.{length, get_or}
-use lib.Seq.{ext_get_or}
-use borrow.Author.Tests.{leb-true, lt-leb, ltb-true, ltb-false, lt-ltb, le-ltb, eq-eqb}
+use borrow.Author.Tests.{lt-leb}
 use Rattle.model.specs.Table.{Words, at, nodes, node_start, has_node, node, spare, root_word, no_collection}
 use Rattle.model.specs.Slots.{Slot, NodeView, View, height, used, clear_in, node_view, view_of}
 use Rattle.model.specs.Search.{below, within, path, kept, filter}
@@ -51,7 +46,8 @@ record Same (v w : View) (z : Leftover) : Type 0 where
   reached : reached w ≡ reached v
   mapping : mapping w ≡ mapping v
 
-module _ (v v' : View) (nodes-same : v'.nodes ≡ v.nodes) (root-same : v'.root ≡ v.root) (agree : (n : ℕ) → Memᴰ n (reached v) → v'.node n ≡ v.node n)
+module _ (v v' : View) (nodes-same : v'.nodes ≡ v.nodes) (root-same : v'.root ≡ v.root)
+    (agree : (n : ℕ) → Memᴰ n (reached v) → v'.node n ≡ v.node n)
     (M : ℕ) (none : v'.node 0 ≡ v.node 0) (past : (n : ℕ) → M ≤ n → v'.node n ≡ v.node n) (z : Leftover) (l : HasLeft v z) where
   -- the first k nodes as v' has them, the others as v
   abbrev mixed : ℕ → View
@@ -88,7 +84,8 @@ module _ (v v' : View) (nodes-same : v'.nodes ≡ v.nodes) (root-same : v'.root 
       go b e (inl q) = kept-whole k (rw q none) s
       go true e (inr q) = kept-whole k (agree k ((elem-iff k (reached v)).0 e)) s
       go false e (inr q) =
-          let u = unreached-keeps (mixed k) (mixed (suc k)) k refl refl (record { else = else-same k; here = refl }) z s.left q (rw s.reached e) in
+          let u = unreached-keeps (mixed k) (mixed (suc k)) k refl refl (record { else = else-same k; here = refl }) z
+          s.left q (rw s.reached e) in
           record { left = u.left; reached = u.reached ∙ s.reached; mapping = u.mapping ∙ s.mapping }
 
   mixes : (k : ℕ) → Same v (mixed k) z
@@ -104,9 +101,11 @@ module _ (v v' : View) (nodes-same : v'.nodes ≡ v.nodes) (root-same : v'.root 
       go i true e = rw e
       go i false e = past i (ltb-false i M e) ∙ rw e
 
--- ---- paths and runs of two orderly views that agree on the reached nodes: SamePaths of step_laws asks that all nodes agree, but not in all that they have
+-- ---- paths and runs of two orderly views that agree on the reached nodes: SamePaths of step_laws asks that all nodes agree, but not in
+-- all that they have
 
-module _ (v w : View) (a : Orderly v) (b : Orderly w) (r : w.root ≡ v.root) (agree : (n : ℕ) → Memᴰ n (reached v) → w.node n ≡ v.node n) (e : reached w ≡ reached v) where
+module _ (v w : View) (a : Orderly v) (b : Orderly w) (r : w.root ≡ v.root) (agree : (n : ℕ) → Memᴰ n (reached v) → w.node n ≡ v.node n)
+    (e : reached w ≡ reached v) where
   abbrev In : ℕ → Type 0
   In n = Memᴰ n (reached v)
 
@@ -118,10 +117,12 @@ module _ (v w : View) (a : Orderly v) (b : Orderly w) (r : w.root ≡ v.root) (a
 
   within-own : (n k : ℕ) → In n → within w n k ≡ within v n k
   unfolding below
-  within-own n k m = ap (λ (x : NodeView). eqb x.sibling 0 || ltb k (w.node x.sibling).fence) (agree n m) ∙ go (same-or-not (v.node n).sibling 0)
+  within-own n k m = ap (λ (x : NodeView). eqb x.sibling 0 || ltb k (w.node x.sibling).fence) (agree n m)
+      ∙ go (same-or-not (v.node n).sibling 0)
     where
       go : ((v.node n).sibling ≡ 0) ⊎ ((v.node n).sibling ≢ 0)
-          → (eqb (v.node n).sibling 0 || ltb k (w.node (v.node n).sibling).fence) ≡ (eqb (v.node n).sibling 0 || ltb k (v.node (v.node n).sibling).fence)
+          → (eqb (v.node n).sibling 0 || ltb k (w.node (v.node n).sibling).fence)
+          ≡ (eqb (v.node n).sibling 0 || ltb k (v.node (v.node n).sibling).fence)
       go (inl z) = rw (eq-eqb (v.node n).sibling 0 z)
       go (inr z) = ap (λ (x : NodeView). eqb (v.node n).sibling 0 || ltb k x.fence) (agree (v.node n).sibling (sibling-reached v n a m z))
 
@@ -131,11 +132,14 @@ module _ (v w : View) (a : Orderly v) (b : Orderly w) (r : w.root ≡ v.root) (a
       ap (λ (x : NodeView). filter (λ (s : Slot). within w n s.key) x.shown) (agree n m)
       ∙ ap (λ (q : Slot → Bool). filter q (v.node n).shown) (λ i s. within-own n s.key m i)
 
-  filter-own : (d : ℕ) (ns : List ℕ) → Each In ns → filter (λ (n : ℕ). eqb (w.node n).level d) ns ≡ filter (λ (n : ℕ). eqb (v.node n).level d) ns
+  filter-own : (d : ℕ) (ns : List ℕ) → Each In ns → filter (λ (n : ℕ). eqb (w.node n).level d) ns
+      ≡ filter (λ (n : ℕ). eqb (v.node n).level d) ns
   unfolding filter
   filter-own d [] h = refl
   filter-own d (n ∷ ns) h =
-      ap (λ (x : NodeView). elim (eqb x.level d) as (λ c. List ℕ) [ true ↦ n ∷ filter (λ (n : ℕ). eqb (w.node n).level d) ns | false ↦ filter (λ (n : ℕ). eqb (w.node n).level d) ns ]) (agree n h.0)
+      ap (λ (x : NodeView). elim (eqb x.level d) as (λ c. List ℕ)
+      [ true ↦ n ∷ filter (λ (n : ℕ). eqb (w.node n).level d) ns | false ↦ filter (λ (n : ℕ). eqb (w.node n).level d) ns ])
+      (agree n h.0)
       ∙ ap (λ (l : List ℕ). elim (eqb (v.node n).level d) as (λ c. List ℕ) [ true ↦ n ∷ l | false ↦ l ]) (filter-own d ns h.1)
 
   cover-own : (k : ℕ) (ns : List ℕ) → Each In ns → cover w k ns ≡ cover v k ns
@@ -150,7 +154,8 @@ module _ (v w : View) (a : Orderly v) (b : Orderly w) (r : w.root ≡ v.root) (a
 
   row-own : (d : ℕ) → d ≤ height v → row_at w d ≡ row_at v d
   row-own d h =
-      row-filter w d b (rw height-own h) ∙ ap (filter (λ (n : ℕ). eqb (w.node n).level d)) e ∙ filter-own d (reached v) (mem-each In (reached v) (λ n m. m)) ∙ sym (row-filter v d a h)
+      row-filter w d b (rw height-own h) ∙ ap (filter (λ (n : ℕ). eqb (w.node n).level d)) e
+      ∙ filter-own d (reached v) (mem-each In (reached v) (λ n m. m)) ∙ sym (row-filter v d a h)
 
   path-own : (k : ℕ) → path w k ≡ path v k
   path-own k = ext_get_or 0 (path w k) (path v k) (path-length w k ∙ ap suc height-own ∙ sym (path-length v k)) (λ i h.
@@ -158,7 +163,8 @@ module _ (v w : View) (a : Orderly v) (b : Orderly w) (r : w.root ≡ v.root) (a
       let d = height v - i in
       let x : height w - d ≡ i = omega (arith, height-own) in
       let y : height v - d ≡ i = omega arith in
-      sym (ap (λ (j : ℕ). get_or (path w k) j 0) x) ∙ path-at w k d b (omega (arith, height-own)) ∙ ap (cover w k) (row-own d (omega arith)) ∙ cover-own k (row_at v d) (row-in d (omega arith))
+      sym (ap (λ (j : ℕ). get_or (path w k) j 0) x) ∙ path-at w k d b (omega (arith, height-own)) ∙ ap (cover w k) (row-own d (omega arith))
+      ∙ cover-own k (row_at v d) (row-in d (omega arith))
       ∙ sym (path-at v k d a (omega arith)) ∙ ap (λ (j : ℕ). get_or (path v k) j 0) y)
 
   run-by : (p q : ℕ → Bool) (ns : List ℕ) → Each (λ (n : ℕ). p n ≡ q n) ns → run_by p ns ≡ run_by q ns
@@ -172,7 +178,8 @@ module _ (v w : View) (a : Orderly v) (b : Orderly w) (r : w.root ≡ v.root) (a
   run-own k left =
       ap (run_by (full_later w)) (path-own k)
       ∙ run-by (full_later w) (full_later v) (path v k) (Each-map In (λ (n : ℕ). full_later w n ≡ full_later v n) (path v k)
-      (λ n m. ap (λ (ks : List Slot). eqb (length ks + lacking_in (leftover w) n) 11) (kept-own n m) ∙ ap (λ (y : Option Leftover). eqb (length (kept v n) + lacking_in y n) 11) left) (path-reached v k a))
+      (λ n m. ap (λ (ks : List Slot). eqb (length ks + lacking_in (leftover w) n) 11) (kept-own n m)
+      ∙ ap (λ (y : Option Leftover). eqb (length (kept v n) + lacking_in y n) 11) left) (path-reached v k a))
 
 -- ---- two tables
 
@@ -193,7 +200,8 @@ past-none t i h = go (leb 1 i) refl
     go true e = lt-leb (node_start i + 32) (length t) (omega (arith, leb-true 1 i e, h))
     go false e = refl
 
-module _ (n : ℕ) (t t' : Words) (q : Sound t) (q' : Sound t') (h : no_collection n t ≡ false) (long : length t' ≡ length t) (same : SameTree n t t')
+module _ (n : ℕ) (t t' : Words) (q : Sound t) (q' : Sound t') (h : no_collection n t ≡ false) (long : length t' ≡ length t)
+    (same : SameTree n t t')
     (free : length (unreachable t') ≡ length (unreachable t)) where
   s : sound t ≡ true
   s = (sound-same t).1 q
@@ -208,7 +216,8 @@ module _ (n : ℕ) (t t' : Words) (q : Sound t) (q' : Sound t') (h : no_collecti
   v' = view_of n t'
 
   there' : no_collection n t' ≡ false
-  there' = by-number t (λ (j : ℕ). at t' (root_word j) ≡ at t (root_word j) → no_collection j t' ≡ false) (λ e. first-there t') (λ z e. second-there t' (λ y. z (sym e ∙ y))) n h same.0
+  there' = by-number t (λ (j : ℕ). at t' (root_word j) ≡ at t (root_word j) → no_collection j t' ≡ false) (λ e. first-there t')
+      (λ z e. second-there t' (λ y. z (sym e ∙ y))) n h same.0
 
   left : (z : Leftover) × HasLeft v z × (has_room v z ≡ true)
   left = (sound-left v).0 (sound-view (root_word n) t s (there n t h).1)
@@ -236,7 +245,8 @@ module _ (n : ℕ) (t t' : Words) (q : Sound t) (q' : Sound t') (h : no_collecti
   numbers : (x : Call) → Names n x → (words dock : ℕ) → refusal x words dock t' ≡ refusal x words dock t
   numbers (insertion m k r c) e words dock =
       let x = insertion n k r c in
-      let g : number_by x words dock (map_of n t') (run_later v' k) (height v') (length (unreachable t')) ≡ number_by x words dock (map_of n t) (run_later v k) (height v) (length (unreachable t)) =
+      let g : number_by x words dock (map_of n t') (run_later v' k) (height v') (length (unreachable t'))
+      ≡ number_by x words dock (map_of n t) (run_later v k) (height v) (length (unreachable t)) =
       ap (λ (ps : List Slot). number_by x words dock ps (run_later v' k) (height v') (length (unreachable t'))) whole.mapping
       ∙ ap (λ (j : ℕ). number_by x words dock (map_of n t) j (height v') (length (unreachable t'))) (runs k)
       ∙ ap (λ (j : ℕ). number_by x words dock (map_of n t) (run_later v k) j (length (unreachable t'))) heights
@@ -244,13 +254,17 @@ module _ (n : ℕ) (t t' : Words) (q : Sound t) (q' : Sound t') (h : no_collecti
       rw e (accept-own x words dock t' s' there' ∙ g ∙ sym (accept-own x words dock t s h))
   numbers (deletion m k) e words dock =
       let x = deletion n k in
-      let g : number_by x words dock (map_of n t') 0 0 (length (unreachable t')) ≡ number_by x words dock (map_of n t) 0 0 (length (unreachable t)) =
-      ap (λ (ps : List Slot). number_by x words dock ps 0 0 (length (unreachable t'))) whole.mapping ∙ ap (λ (j : ℕ). number_by x words dock (map_of n t) 0 0 j) free in
+      let g : number_by x words dock (map_of n t') 0 0 (length (unreachable t'))
+      ≡ number_by x words dock (map_of n t) 0 0 (length (unreachable t)) =
+      ap (λ (ps : List Slot). number_by x words dock ps 0 0 (length (unreachable t'))) whole.mapping
+      ∙ ap (λ (j : ℕ). number_by x words dock (map_of n t) 0 0 j) free in
       rw e (accept-own x words dock t' s' there' ∙ g ∙ sym (accept-own x words dock t s h))
   numbers (class_change m k c) e words dock =
       let x = class_change n k c in
-      let g : number_by x words dock (map_of n t') 0 0 (length (unreachable t')) ≡ number_by x words dock (map_of n t) 0 0 (length (unreachable t)) =
-      ap (λ (ps : List Slot). number_by x words dock ps 0 0 (length (unreachable t'))) whole.mapping ∙ ap (λ (j : ℕ). number_by x words dock (map_of n t) 0 0 j) free in
+      let g : number_by x words dock (map_of n t') 0 0 (length (unreachable t'))
+      ≡ number_by x words dock (map_of n t) 0 0 (length (unreachable t)) =
+      ap (λ (ps : List Slot). number_by x words dock ps 0 0 (length (unreachable t'))) whole.mapping
+      ∙ ap (λ (j : ℕ). number_by x words dock (map_of n t) 0 0 j) free in
       rw e (accept-own x words dock t' s' there' ∙ g ∙ sym (accept-own x words dock t s h))
   numbers repair e words dock = absurd e
 

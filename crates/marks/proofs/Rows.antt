@@ -1,19 +1,12 @@
 -- The first of a row of numbers that does not pass a test, and the first after a number, going round: of nodes marked, or reached.
-use mathlib.Core.Path.{◌≡◌, refl, ap, sym, ◌∙◌}
-use mathlib.Core.Bool.{Bool, true, false, not}
-use mathlib.Core.Logic.{◌≢◌, ⊎_elim}
-use mathlib.Core.List.{List, [], ◌∷◌, ◌++◌}
-use Prim.Native.Nat.{ℕ, zero, suc, pred, ◌+◌, ◌-◌, ◌≤◌, ◌<◌}
-use native.Mathlib.Numerals.{add-one, sub-one}
-use native.Mathlib.Omega.{arith}
-use lib.Dec.{leb, ltb}
-use lib.ListN.{length}
-use borrow.Author.Tests.{leb-true, leb-false, ltb-false, lt-ltb, le-ltb}
+use Rattle.std.proofs.Common.{◌≡◌, ℕ, zero, suc, pred, ◌+◌, ◌-◌, ◌<◌, ◌≤◌, Bool, true, false, not, ltb, leb, ◌≢◌, List, [], ◌∷◌, ◌++◌}
+use Rattle.std.proofs.Common.{length, sym, refl, ap, ◌∙◌, ⊎_elim, add-one, sub-one, arith, ltb-false, le-ltb, lt-ltb, leb-false, leb-true}
 use Rattle.model.specs.Reached.{filter, head_or}
 use Rattle.model.specs.Writes.{numbers}
 use Rattle.list_laws.proofs.Tools.{same-or-not}
 use Rattle.list_laws.proofs.Filters.{filter-yes, filter-no, filter-append}
 
+-- the numbers n to last are n, then those from n + 1 to last
 pub row-more : (n last : ℕ) → n ≤ last → numbers n (last + 1 - n) ≡ n ∷ numbers (suc n) (last + 1 - suc n)
 unfolding numbers
 row-more n last h = let e : last + 1 - n ≡ suc (last + 1 - suc n) = omega arith in rw e
@@ -64,7 +57,13 @@ module _ (p : ℕ → Bool) where
 
   -- a marked one more in front
   first-more : (n last f : ℕ) → p n ≡ true → First (n + 1) last f → First n last f
-  first-more n last f e r = record { no-less = omega (arith, r.no-less); within = r.within; free = r.free; before = λ m a b. ⊎_elim (λ q. rw q e) (λ q. r.before m (omega (arith, q)) b) (same-or-not m n) }
+  first-more n last f e r =
+      record {
+        no-less = omega (arith, r.no-less);
+        within = r.within;
+        free = r.free;
+        before = λ m a b. ⊎_elim (λ q. rw q e) (λ q. r.before m (omega (arith, q)) b) (same-or-not m n);
+      }
 
   first-at : (c n last f : ℕ) → last + 1 - n ≡ c → f ≡ first_from n last → f ≢ 0 → First n last f
   first-at zero n last f w q z = absurd (z (q ∙ first-none n last (omega arith)))
@@ -76,6 +75,7 @@ module _ (p : ℕ → Bool) where
           let here : f ≡ n = q ∙ first-here n last (omega arith) e in
           record { no-less = omega arith; within = omega arith; free = rw here e; before = λ m a b. absurd (omega arith) }
 
+  -- a first number that is not 0 is the first one from n to last that is not marked
   pub first-is : (n last f : ℕ) → f ≡ first_from n last → f ≢ 0 → First n last f
   first-is n last f q z = first-at (last + 1 - n) n last f refl q z
 
@@ -88,7 +88,8 @@ module _ (p : ℕ → Bool) where
       none-at (suc c) k w h y m a b = here (p k) refl (none-at c (k + 1) (omega arith) (omega arith))
         where
           here : (b : Bool) → p k ≡ b → (first_from (k + 1) last ≡ 0 → (j : ℕ) → k + 1 ≤ j → j ≤ last → p j ≡ true) → p m ≡ true
-          here true e later = ⊎_elim (λ r. rw r e) (λ r. later (first-later k last (omega arith) e ∙ y) m (omega (arith, r)) b) (same-or-not m k)
+          here true e later = ⊎_elim (λ r. rw r e)
+              (λ r. later (first-later k last (omega arith) e ∙ y) m (omega (arith, r)) b) (same-or-not m k)
           here false e later = let none : k ≡ 0 = sym (first-here k last (omega arith) e) ∙ y in absurd (omega arith)
 
   -- ---- going round
@@ -99,7 +100,8 @@ module _ (p : ℕ → Bool) where
   empty-row n zero l h = unfold filter in refl
   empty-row n (suc c) l h = go (p n) refl (empty-row (suc n) c (omega arith))
     where
-      go : (b : Bool) → p n ≡ b → (head_or 0 (others (numbers (suc n) c)) ≡ 0 → others (numbers (suc n) c) ≡ []) → others (n ∷ numbers (suc n) c) ≡ []
+      go : (b : Bool) → p n ≡ b → (head_or 0 (others (numbers (suc n) c)) ≡ 0 → others (numbers (suc n) c) ≡ [])
+          → others (n ∷ numbers (suc n) c) ≡ []
       go true e ih = others-no n _ e ∙ ih (sym (ap (head_or 0) (others-no n (numbers (suc n) c) e)) ∙ h)
       go false e ih = let z : n ≡ 0 = sym (ap (head_or 0) (others-yes n (numbers (suc n) c) e)) ∙ h in absurd (omega arith)
 
@@ -122,21 +124,28 @@ module _ (p : ℕ → Bool) where
   round-next N a n e z = e ∙ sym (rows N a ∙ head-append (others (numbers (a + 1) (N + 1 - (a + 1)))) _ (λ y. z (e ∙ y)))
 
   pub round-on : (N a n r : ℕ) → n ≡ first_from (a + 1) N → n ≡ 0 → r ≡ first_from 1 (a - 1) → r ≡ after_round N a
-  round-on N a n r e z q = q ∙ sym (rows N a ∙ ap (λ (l : List ℕ). head_or 0 (l ++ others (numbers 1 (a - 1 + 1 - 1)))) (empty-row (a + 1) (N + 1 - (a + 1)) (omega arith) (sym e ∙ z)))
+  round-on N a n r e z q =
+      q ∙ sym (rows N a ∙ ap (λ (l : List ℕ). head_or 0 (l ++ others (numbers 1 (a - 1 + 1 - 1))))
+      (empty-row (a + 1) (N + 1 - (a + 1)) (omega arith) (sym e ∙ z)))
 
   -- ---- how many
 
   -- where the first is f, the others come after it
-  pub count-next : (c a last f : ℕ) → last + 1 - a ≡ c → f ≡ first_from a last → f ≢ 0 → length (others (numbers a (last + 1 - a))) ≡ suc (length (others (numbers (f + 1) (last + 1 - (f + 1)))))
+  pub count-next : (c a last f : ℕ) → last + 1 - a ≡ c → f ≡ first_from a last → f ≢ 0 → length (others (numbers a (last + 1 - a)))
+      ≡ suc (length (others (numbers (f + 1) (last + 1 - (f + 1)))))
   count-next zero a last f w e z = absurd (z (e ∙ first-none a last (omega arith)))
   count-next (suc c) a last f w e z = go (p a) refl (count-next c (suc a) last f (omega arith))
     where
-      go : (b : Bool) → p a ≡ b → (f ≡ first_from (suc a) last → f ≢ 0 → length (others (numbers (suc a) (last + 1 - suc a))) ≡ suc (length (others (numbers (f + 1) (last + 1 - (f + 1))))))
+      go : (b : Bool) → p a ≡ b
+          → (f ≡ first_from (suc a) last → f ≢ 0 → length (others (numbers (suc a) (last + 1 - suc a)))
+          ≡ suc (length (others (numbers (f + 1) (last + 1 - (f + 1))))))
           → length (others (numbers a (last + 1 - a))) ≡ suc (length (others (numbers (f + 1) (last + 1 - (f + 1)))))
-      go true q ih = ap length (ap others (row-more a last (omega arith)) ∙ others-no a _ q) ∙ ih (e ∙ sym (ap (λ (k : ℕ). first_from k last) (sym (add-one a)) ∙ first-later a last (omega arith) q)) z
+      go true q ih = ap length (ap others (row-more a last (omega arith)) ∙ others-no a _ q)
+          ∙ ih (e ∙ sym (ap (λ (k : ℕ). first_from k last) (sym (add-one a)) ∙ first-later a last (omega arith) q)) z
       go false q ih =
           let here : f ≡ a = e ∙ first-here a last (omega arith) q in
-          ap length (ap others (row-more a last (omega arith)) ∙ others-yes a _ q) ∙ ap (λ (k : ℕ). suc (length (others (numbers k (last + 1 - k))))) (sym (add-one a) ∙ ap (λ (k : ℕ). k + 1) (sym here))
+          ap length (ap others (row-more a last (omega arith)) ∙ others-yes a _ q)
+          ∙ ap (λ (k : ℕ). suc (length (others (numbers k (last + 1 - k))))) (sym (add-one a) ∙ ap (λ (k : ℕ). k + 1) (sym here))
 
   -- where there is none, it is 0
   pub count-none : (a last : ℕ) → 1 ≤ a → 0 ≡ first_from a last → length (others (numbers a (last + 1 - a))) ≡ 0
@@ -158,13 +167,15 @@ module _ (p : ℕ → Bool) where
   abbrev pub total : (N : ℕ) → ℕ
   total N = length (others (numbers 1 N))
 
-  pub few-yes : (all N after f k want : ℕ) → all ≡ rest_after N after + k → f ≡ first_from (after + 1) N → f ≡ 0 → k < want → true ≡ ltb all want
+  pub few-yes : (all N after f k want : ℕ) → all ≡ rest_after N after + k → f ≡ first_from (after + 1) N → f ≡ 0
+      → k < want → true ≡ ltb all want
   few-yes all N after f k want e q z h = sym (lt-ltb all want (omega (arith, e, count-none (after + 1) N (omega arith) (sym z ∙ q))))
 
   pub few-no : (all N after k want : ℕ) → all ≡ rest_after N after + k → want ≤ k → false ≡ ltb all want
   few-no all N after k want e h = sym (le-ltb all want (omega (arith, e)))
 
-  pub few-next : (all N after f k : ℕ) → all ≡ rest_after N after + k → f ≡ first_from (after + 1) N → f ≢ 0 → all ≡ rest_after N f + (k + 1)
+  pub few-next : (all N after f k : ℕ) → all ≡ rest_after N after + k → f ≡ first_from (after + 1) N → f ≢ 0 → all
+      ≡ rest_after N f + (k + 1)
   few-next all N after f k e q z = omega (arith, e, count-next (N + 1 - (after + 1)) (after + 1) N f refl q z)
 
   pub first-small : (N after f : ℕ) → N ≤ 65535 → f ≡ first_from (after + 1) N → f ≤ 65535
@@ -174,9 +185,12 @@ module _ (p : ℕ → Bool) where
   row-less : (n last : ℕ) → length (others (numbers (n + 1) (last + 1 - (n + 1)))) ≤ length (others (numbers n (last + 1 - n)))
   row-less n last = go (leb n last) refl (p n) refl
     where
-      go : (a : Bool) → leb n last ≡ a → (b : Bool) → p n ≡ b → length (others (numbers (n + 1) (last + 1 - (n + 1)))) ≤ length (others (numbers n (last + 1 - n)))
-      go true q true e = rw (row-more n last (leb-true n last q), add-one n) (omega (arith, ap length (others-no n (numbers (suc n) (last + 1 - suc n)) e)))
-      go true q false e = rw (row-more n last (leb-true n last q), add-one n) (omega (arith, ap length (others-yes n (numbers (suc n) (last + 1 - suc n)) e)))
+      go : (a : Bool) → leb n last ≡ a → (b : Bool) → p n ≡ b
+          → length (others (numbers (n + 1) (last + 1 - (n + 1)))) ≤ length (others (numbers n (last + 1 - n)))
+      go true q true e = rw (row-more n last (leb-true n last q), add-one n)
+          (omega (arith, ap length (others-no n (numbers (suc n) (last + 1 - suc n)) e)))
+      go true q false e = rw (row-more n last (leb-true n last q), add-one n)
+          (omega (arith, ap length (others-yes n (numbers (suc n) (last + 1 - suc n)) e)))
       go false q b e =
           let g = leb-false n last q in
           let z : last + 1 - (n + 1) ≡ 0 = omega arith in

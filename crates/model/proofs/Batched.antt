@@ -1,8 +1,6 @@
 -- A batch of four pairs, computed: three are taken, each with its recording and class, in one list; the fourth finds too few words left.
-use mathlib.Core.Path.{◌≡◌, refl}
-use mathlib.Core.List.{List, [], ◌∷◌}
+use Rattle.std.proofs.Common.{◌≡◌, List, [], ◌∷◌, take, drop, replicate, refl}
 use mathlib.Core.Option.{none}
-use lib.ListN.{replicate, take, drop}
 use Rattle.std.specs.Prelude.{Some, None}
 use Rattle.model.specs.Numbers.{refusal_of}
 use Rattle.model.specs.Table.{MARK, empty}
@@ -23,7 +21,8 @@ three_in = record { one = slot 10 (pointer_of 101 0) ∷ slot 20 (pointer_of 102
 
 pub record BatchTrial : Type 0 where
   -- the refusal that stopped it, how many it took, and the sums of their stores and flushes
-  pub answers : four_taken.answer ≡ record { stop = Some (refusal_of 5); taken = 3; counts = record { stores = 14; flushes = 3; barriers = 0 } }
+  pub answers : four_taken.answer
+      ≡ record { stop = Some (refusal_of 5); taken = 3; counts = record { stores = 14; flushes = 3; barriers = 0 } }
   pub enters : maps_of four_taken.table ≡ three_in
   -- the orders of the three, one after another, and the words after them
   pub first-list : take 10 four_taken.list ≡ 19 ∷ 0 ∷ 17 ∷ MARK ∷ 16 ∷ 20 ∷ 17 ∷ pointer_of 102 1 ∷ MARK ∷ 2 ∷ []
@@ -33,10 +32,13 @@ pub record BatchTrial : Type 0 where
   pub stay : take 2 (drop 34 four_taken.list) ≡ 7 ∷ 7 ∷ []
   pub gives : maps_of (carried_out 17 four_taken.list (empty 1)) ≡ three_in
   -- on dock 1 a barrier for each store
-  pub barred : (batch 1 1 (take 1 four_pairs) (replicate 5120 0) (empty 1)).answer ≡ record { stop = None; taken = 1; counts = record { stores = 4; flushes = 1; barriers = 4 } }
+  pub barred : (batch 1 1 (take 1 four_pairs) (replicate 5120 0) (empty 1)).answer
+      ≡ record { stop = None; taken = 1; counts = record { stores = 4; flushes = 1; barriers = 4 } }
   -- a key that an earlier pair of the batch entered is refused
-  pub seven : (batch 1 0 (slot 20 1 ∷ slot 20 2 ∷ []) (replicate 2590 7) (empty 1)).answer ≡ record { stop = Some (refusal_of 7); taken = 1; counts = record { stores = 4; flushes = 1; barriers = 0 } }
-  pub none-given : (batch 1 0 [] [] (empty 1)).answer ≡ record { stop = None; taken = 0; counts = record { stores = 0; flushes = 0; barriers = 0 } }
+  pub seven : (batch 1 0 (slot 20 1 ∷ slot 20 2 ∷ []) (replicate 2590 7) (empty 1)).answer
+      ≡ record { stop = Some (refusal_of 7); taken = 1; counts = record { stores = 4; flushes = 1; barriers = 0 } }
+  pub none-given : (batch 1 0 [] [] (empty 1)).answer
+      ≡ record { stop = None; taken = 0; counts = record { stores = 0; flushes = 0; barriers = 0 } }
 
 pub batch-tried : BatchTrial
 unfolding everything

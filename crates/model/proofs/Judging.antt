@@ -1,7 +1,5 @@
 -- The judge's numbers in their order, computed: each comes if its condition holds, though later ones hold too.
-use mathlib.Core.Path.{◌≡◌, refl}
-use mathlib.Core.List.{[], ◌∷◌}
-use lib.ListN.{set}
+use Rattle.std.proofs.Common.{◌≡◌, [], ◌∷◌, set, refl}
 use Rattle.model.specs.Table.{MARK, Words, empty}
 use Rattle.model.specs.Writes.{Call, insertion, deletion}
 use Rattle.model.specs.Judge.{judge_number}
@@ -40,4 +38,5 @@ pub record JudgeTrial : Type 0 where
 
 pub judge-tried : JudgeTrial
 unfolding everything
-judge-tried = record { two = refl; seventeen = refl; four = refl; twenty = refl; thirteen = refl; fifteen = refl; twenty-one = refl; judges = refl }
+judge-tried = record
+    { two = refl; seventeen = refl; four = refl; twenty = refl; thirteen = refl; fifteen = refl; twenty-one = refl; judges = refl }

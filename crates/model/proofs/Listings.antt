@@ -1,8 +1,5 @@
 -- Listings of three pairs, computed: both ends of the range, whole pairs, more, other words.
-use mathlib.Core.Path.{◌≡◌, refl}
-use mathlib.Core.Bool.{true, false}
-use mathlib.Core.List.{[], ◌∷◌}
-use lib.ListN.{replicate}
+use Rattle.std.proofs.Common.{◌≡◌, true, false, [], ◌∷◌, replicate, refl}
 use Rattle.model.specs.Results.{page_with}
 use Rattle.model.specs.Table.{Words}
 use Rattle.model.specs.Slots.{pointer_of}

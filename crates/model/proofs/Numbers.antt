@@ -1,14 +1,11 @@
 -- The refusals and their numbers: each gives the other back.
-use mathlib.Core.Path.{◌≡◌, refl, ap, sym, ◌∙◌}
-use mathlib.Core.Bool.{Bool, true, false}
-use mathlib.Core.List.{List, []}
-use mathlib.Core.Logic.{◌≢◌, ◌⊎◌, inl, inr}
-use Prim.Native.Nat.{ℕ, zero, suc}
-use native.Mathlib.Omega.{arith}
+use Rattle.std.proofs.Common.{◌≡◌, ℕ, zero, suc, Bool, true, false, ◌≢◌, ◌⊎◌, List, [], sym, refl, ap, ◌∙◌, inl, inr, arith}
 use Rattle.std.specs.Prelude.{cond, Result, Ok, Err}
 use Rattle.model.specs.declared.Refusal.{Refusal}
-use Rattle.model.specs.declared.Refusal.TheVariants.{NoCode, NoTable, SearchLost, NotSound, ShortList, BadRecording, KeyPresent, RecordingPresent}
-use Rattle.model.specs.declared.Refusal.TheVariants.{KeyAbsent, NoNodes, TooHigh, BadOrders, BadClass, OtherLength, ShortReport, NoCollection}
+use Rattle.model.specs.declared.Refusal.TheVariants.{NoCode, NoTable, SearchLost, NotSound, ShortList, BadRecording, KeyPresent}
+use Rattle.model.specs.declared.Refusal.TheVariants.{RecordingPresent}
+use Rattle.model.specs.declared.Refusal.TheVariants.{KeyAbsent, NoNodes, TooHigh, BadOrders, BadClass, OtherLength, ShortReport}
+use Rattle.model.specs.declared.Refusal.TheVariants.{NoCollection}
 use Rattle.model.specs.declared.Refusal.TheVariants.{NoDock, OtherSentinels, NotSettled, ChangeRefused, NoScript, BadScript, ShortFigures}
 use Rattle.model.specs.declared.Refusal.TheVariants.{BadPairs, OtherSummary}
 use Rattle.model.specs.Numbers.{refusal_number, first_of, refusal_of}
@@ -54,6 +51,7 @@ refused-by r = ap Err (refusal-of-number r)
 
 -- ---- a test that passes with 0 and fails with the number of a refusal
 
+-- the number of a refusal gives that refusal
 pub passed-number : (r : Refusal) → passed (refusal_number r) ≡ Err r
 unfolding refusal_of first_of
 passed-number NoCode = refl
@@ -82,16 +80,20 @@ passed-number ShortFigures = refl
 passed-number BadPairs = refl
 passed-number OtherSummary = refl
 
+-- the number 0 passes
 pub passes : {n : ℕ} → 0 ≡ n → Ok tt ≡ passed n
 passes e = ap passed e
 
+-- the number of a refusal fails with that refusal
 pub fails : (r : Refusal) {n : ℕ} → refusal_number r ≡ n → Err r ≡ passed n
 fails r e = sym (passed-number r) ∙ ap passed e
 
+-- only the number 0 passes
 pub passed-zero : (n : ℕ) {x : Unit {0}} → passed n ≡ Ok x → n ≡ 0
 passed-zero zero e = refl
 passed-zero (suc n) e = let z : ◌≡◌ {A = ℕ} 0 1 = cc in absurd (omega arith)
 
+-- a number that fails is not 0
 pub failed-some : (n : ℕ) {r : Refusal} → passed n ≡ Err r → n ≢ 0
 failed-some zero e = let z : ◌≡◌ {A = ℕ} 0 1 = cc in absurd (omega arith)
 failed-some (suc n) e = λ z. omega arith
@@ -106,7 +108,9 @@ pub done-ok : {T : Type 0} (n : ℕ) (d : T) {x : T} → unless_refused n (Ok d)
 done-ok zero d e = (refl, cc)
 done-ok (suc n) d e = let z : ◌≡◌ {A = ℕ} 0 1 = cc in absurd (omega arith)
 
-pub done-err : {T U : Type 0} (n : ℕ) (d : T) {r : Refusal} → unless_refused n (Ok d) (refused_with n) ≡ Err r → (n ≢ 0) × ◌≡◌ {A = Result U Refusal} (refused_with n) (Err r)
+-- if what is done or refused by number n is refused, n is not 0, and the refusal is the one with it
+pub done-err : {T U : Type 0} (n : ℕ) (d : T) {r : Refusal} → unless_refused n (Ok d) (refused_with n) ≡ Err r → (n ≢ 0)
+    × ◌≡◌ {A = Result U Refusal} (refused_with n) (Err r)
 done-err zero d e = let z : ◌≡◌ {A = ℕ} 0 1 = cc in absurd (omega arith)
 done-err (suc n) d e = let same : refusal_of (suc n) ≡ _ = cc in ((λ z. omega arith), ap Err same)
 
@@ -114,6 +118,7 @@ done-err (suc n) d e = let same : refusal_of (suc n) ≡ _ = cc in ((λ z. omega
 abbrev pub Numbered : ℕ → Type 0
 Numbered n = (n ≡ 0) ⊎ (refusal_number (refusal_of n) ≡ n)
 
+-- the number of a refusal is a number that a refusal has
 pub numbered : (r : Refusal) → Numbered (refusal_number r)
 numbered r = inr (ap refusal_number (refusal-of-number r))
 
@@ -121,12 +126,14 @@ numbered r = inr (ap refusal_number (refusal-of-number r))
 pub none-numbered : Numbered (first_number [])
 none-numbered = inl refl
 
+-- a refusal's number by a test, or else a number that is 0 or a refusal's, is again 0 or a refusal's
 pub one-more : (b : Bool) (r : Refusal) (n : ℕ) → Numbered n → Numbered (cond b (refusal_number r) n)
 one-more true r n h = numbered r
 one-more false r n h = h
 
 -- a refusal that a number gave has that number
-pub handed-number : {T : Type 0} (m : ℕ) {r : Refusal} → m ≢ 0 → ◌≡◌ {A = Result T Refusal} (refused_with m) (Err r) → Numbered m → refusal_number r ≡ m
+pub handed-number : {T : Type 0} (m : ℕ) {r : Refusal} → m ≢ 0 → ◌≡◌ {A = Result T Refusal} (refused_with m) (Err r)
+    → Numbered m → refusal_number r ≡ m
 handed-number m z h (inl a) = absurd (z a)
 handed-number m {r} z h (inr a) = let same : refusal_of m ≡ r = cc in ap refusal_number (sym same) ∙ a
 
@@ -137,6 +144,7 @@ answered-number zero m done h e = e
 answered-number (suc n) m done (inr h) e = h
 answered-number (suc n) m done (inl h) e = absurd (omega arith)
 
+-- answering 0 if n is 0, and n otherwise, is answering n
 pub itself : (n : ℕ) → unless_refused n 0 n ≡ n
 itself zero = refl
 itself (suc n) = refl
@@ -150,6 +158,7 @@ map-numbered (deletion n k) eleven ten ps = one-more _ KeyAbsent _ none-numbered
 map-numbered (class_change n k c) eleven ten ps = one-more _ BadClass _ (one-more _ KeyAbsent _ none-numbered)
 map-numbered repair eleven ten ps = none-numbered
 
+-- what a writing call is refused with is 0 or a refusal's number
 pub refusal-numbered : (x : Call) (words dock : ℕ) (t : Words) → Numbered (refusal x words dock t)
 unfolding refusal
 refusal-numbered x words dock t =
@@ -157,6 +166,7 @@ refusal-numbered x words dock t =
     one-more _ NoTable _ (one-more _ NoCollection _ (one-more _ NotSound _ (one-more _ NoDock _ (one-more _ ShortList _
     (map-numbered x (eleven_in x u) (ten_in x u) (own_map x u))))))
 
+-- what a call with a sentinel slice tests first gives 0 or a refusal's number
 pub slice-numbered : (s : Bool) (m : ℕ) (t : Words) → Numbered (slice_number s m t)
 unfolding slice_number
 slice-numbered s m t = one-more _ NoTable _ (one-more _ NoCollection _ (one-more _ OtherSentinels _ none-numbered))

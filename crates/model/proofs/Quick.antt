@@ -1,15 +1,9 @@
 -- The view of a table with each node's words read once: the same view, at a fraction of the steps.
-use mathlib.Core.Path.{◌≡◌, refl, ap, ◌∙◌, fun_ext}
-use mathlib.Core.Bool.{Bool, true, false, cond, ◌&&◌}
-use mathlib.Core.List.{List, [], ◌∷◌}
-use Prim.Native.Nat.{ℕ, zero, suc, ◌+◌, ◌*◌, ◌≤◌, ◌<◌}
-use native.Mathlib.Nat.{le_of_suc-le-suc, not-suc-le-zero, add_assoc, add_comm, mul-suc}
-use native.Mathlib.Omega.{arith}
-use native.Mathlib.Numerals.{sub-one}
-use lib.Dec.{leb, eqb, leb-suc-suc, leb-zero}
-use lib.ListN.{length, get_or, take, drop}
-use lib.Seq.{get_or-drop, drop-drop}
-use borrow.Author.Tests.{leb-true, leb-false, eqb-true}
+use Rattle.std.proofs.Common.{◌≡◌, ℕ, zero, suc, ◌+◌, ◌*◌, ◌<◌, ◌≤◌, Bool, true, false, cond, ◌&&◌, eqb, leb, List, [], ◌∷◌, length, get_or}
+use Rattle.std.proofs.Common.{take, drop, refl, ap, ◌∙◌, le_of_suc-le-suc, not-suc-le-zero, add_assoc, add_comm, mul-suc, sub-one, arith}
+use Rattle.std.proofs.Common.{get_or-drop, drop-drop, eqb-true, leb-false, leb-true}
+use mathlib.Core.Path.{fun_ext}
+use lib.Dec.{leb-suc-suc, leb-zero}
 use Rattle.model.specs.declared.Node.{Node}
 use Rattle.model.specs.Table.{Words, all_zero, blank, nodes, root, table_length, node_start, has_node, node, node_from, spare}
 use Rattle.model.specs.Slots.{slots_of, in_use, shown, hidden_slots, used, clear_in, NodeView, View, view}
@@ -40,6 +34,7 @@ abbrev pub quick_by : Words → Bool → View
 quick_by t true = let ns = node_views t in view_by (nodes t) (root t) (λ (i : ℕ). get_or ns i (read_node blank []))
 quick_by t false = view t
 
+-- the view of a table, with each node's words read once
 unfoldable pub quick : Words → View
 quick t = quick_by t (eqb (length t) (table_length (nodes t)))
 
@@ -63,7 +58,8 @@ past (suc n) (suc i) ws d h = past n i (drop 32 ws) d (le_of_suc-le-suc h)
 
 -- by whether the table has node i + 1
 read-next : (t : Words) → length t ≡ 8 + 32 * nodes t → (i : ℕ) (b : Bool) → leb (8 + 32 * i + 32) (length t) ≡ b
-    → get_or (row (nodes t) (drop 8 t)) i (read_node blank []) ≡ read_node (cond b (node_from t (8 + 32 * i)) blank) (cond b (take 4 (drop (8 + 32 * i + 4) t)) [])
+    → get_or (row (nodes t) (drop 8 t)) i (read_node blank [])
+    ≡ read_node (cond b (node_from t (8 + 32 * i)) blank) (cond b (take 4 (drop (8 + 32 * i + 4) t)) [])
 read-next t e i true h =
     let le : 8 + 32 * i + 32 ≤ length t = leb-true (8 + 32 * i + 32) (length t) h in
     row-at (nodes t) i (drop 8 t) (read_node blank []) (omega (arith, e, le)) ∙ simp (from-drop, drop-drop, add_assoc)

@@ -1,9 +1,7 @@
--- Quick calls, computed: the numbers in their order, each though later ones hold too; what a split and a freed leaf do to the summary; a page of
+-- Quick calls, computed: the numbers in their order, each though later ones hold too; what a split and a freed leaf do to the summary; a
+-- page of
 -- a listing.
-use mathlib.Core.Path.{◌≡◌, refl}
-use mathlib.Core.Bool.{true, false}
-use mathlib.Core.List.{[], ◌∷◌}
-use lib.ListN.{take, replicate, set}
+use Rattle.std.proofs.Common.{◌≡◌, true, false, [], ◌∷◌, take, set, replicate, refl}
 use Rattle.model.specs.Results.{refused_with, page_with}
 use Rattle.model.specs.Table.{MARK, Words, empty}
 use Rattle.model.specs.Slots.{pointer_of}
@@ -63,13 +61,18 @@ pub record QuickTrial : Type 0 where
   -- A split marks the new root and the new leaf, a freed leaf loses its mark; the stores are the plain call's.
   pub marked : (take 1 (opened full) ≡ 2 ∷ []) × (take 1 (later splitting full) ≡ 14 ∷ [])
   pub cleared : (take 1 (opened pair) ≡ 14 ∷ []) × (take 1 (later freeing pair) ≡ 10 ∷ [])
-  pub stores : (quick_stores splitting (opened full) full ≡ stores_of splitting full) × (quick_stores freeing (opened pair) pair ≡ stores_of freeing pair)
+  pub stores : (quick_stores splitting (opened full) full ≡ stores_of splitting full)
+      × (quick_stores freeing (opened pair) pair ≡ stores_of freeing pair)
   -- the recording comes into the cells, and goes
-  pub enters : (holds (cells_in 3 (opened full)) (pointer_of 99 1) ≡ false) × (holds (cells_in 3 (later splitting full)) (pointer_of 99 1) ≡ true)
-  pub leaves : (holds (cells_in 3 (opened pair)) (pointer_of 121 1) ≡ true) × (holds (cells_in 3 (later freeing pair)) (pointer_of 121 1) ≡ false)
+  pub enters : (holds (cells_in 3 (opened full)) (pointer_of 99 1) ≡ false)
+      × (holds (cells_in 3 (later splitting full)) (pointer_of 99 1) ≡ true)
+  pub leaves : (holds (cells_in 3 (opened pair)) (pointer_of 121 1) ≡ true)
+      × (holds (cells_in 3 (later freeing pair)) (pointer_of 121 1) ≡ false)
   -- a page of two pairs from key 100 on, and that more are left
-  pub page : (quick_listed 1 (opened pair) pair 100 MARK (replicate 4 0) ≡ page_with 2 true) × (quick_list_out 1 (opened pair) pair 100 MARK (replicate 4 0) ≡ 100 ∷ 110 ∷ 110 ∷ 111 ∷ [])
-  pub last-page : (quick_listed 1 (opened pair) pair 111 MARK (replicate 4 0) ≡ page_with 1 false) × (quick_listed 1 (replicate 49 0) pair 111 MARK [] ≡ refused_with 4)
+  pub page : (quick_listed 1 (opened pair) pair 100 MARK (replicate 4 0) ≡ page_with 2 true)
+      × (quick_list_out 1 (opened pair) pair 100 MARK (replicate 4 0) ≡ 100 ∷ 110 ∷ 110 ∷ 111 ∷ [])
+  pub last-page : (quick_listed 1 (opened pair) pair 111 MARK (replicate 4 0) ≡ page_with 1 false)
+      × (quick_listed 1 (replicate 49 0) pair 111 MARK [] ≡ refused_with 4)
 
 pub quick-tried : QuickTrial
 unfolding everything ten_slots

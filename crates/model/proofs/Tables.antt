@@ -1,7 +1,5 @@
 -- Tables for the trials, built node by node.
-use mathlib.Core.List.{List, [], ◌∷◌, ◌++◌}
-use Prim.Native.Nat.{ℕ, zero, suc, pred, ◌+◌, ◌*◌}
-use lib.ListN.{length, replicate}
+use Rattle.std.proofs.Common.{ℕ, zero, suc, pred, ◌+◌, ◌*◌, List, [], ◌∷◌, ◌++◌, length, replicate}
 use Rattle.model.specs.Table.{MARK, Words}
 use Rattle.model.specs.Slots.{Slot, slot}
 use Rattle.model.specs.Reached.{flat}
@@ -44,4 +42,5 @@ two_levels cs ss more = table_of (suc (length cs)) (leaf_row 1 cs ++ (node_words
 abbrev pub three_levels : List ℕ → (ss rs : List Slot) → (more : List Words) → Words
 three_levels cs ss rs more =
     let m = length cs in
-    table_of (m + 3) (leaf_row 1 cs ++ (node_words 1 (m + 2) 1 0 ss ∷ node_words m 0 1 (200 * pred m) [] ∷ node_words (m + 1) 0 2 0 rs ∷ more))
+    table_of (m + 3) (leaf_row 1 cs
+    ++ (node_words 1 (m + 2) 1 0 ss ∷ node_words m 0 1 (200 * pred m) [] ∷ node_words (m + 1) 0 2 0 rs ∷ more))

@@ -1,12 +1,7 @@
 -- What it is to try a write on a table: each first part of its stores, each cut of its orders, its number; and a few trials.
-use mathlib.Core.Path.{◌≡◌, refl, subst}
-use mathlib.Core.Logic.{inl, inr}
-use mathlib.Core.Bool.{Bool, true, false, ◌&&◌, ◌||◌}
-use mathlib.Core.List.{List, [], ◌∷◌, ◌++◌, map}
+use Rattle.std.proofs.Common.{◌≡◌, ℕ, suc, pred, ◌*◌, Bool, true, false, ◌&&◌, ◌||◌, eqb, List, [], ◌∷◌, ◌++◌, map, length, take, drop, set}
+use Rattle.std.proofs.Common.{replicate, refl, subst, inl, inr}
 use mathlib.Core.Option.{none}
-use Prim.Native.Nat.{ℕ, suc, pred, ◌*◌}
-use lib.Dec.{eqb}
-use lib.ListN.{length, take, drop, set, replicate}
 use Rattle.model.specs.Results.{done_with}
 use Rattle.model.specs.Scripts.{same_answer}
 use Rattle.model.specs.Table.{MARK, Words, at, line, header_ok, empty}
@@ -99,7 +94,8 @@ module _ (look : Words → View) where
       let old = mapping (look t) in
       let new = changed x old in
       let keys = near_call x ++ ks in
-      eqb (refusal x 2560 0 t) 0 && until (has_either keys old new) (λ (u : Words). settled_with new u && answers_as keys new (look u)) (stores_of x t) t
+      eqb (refusal x 2560 0 t) 0 && until (has_either keys old new)
+      (λ (u : Words). settled_with new u && answers_as keys new (look u)) (stores_of x t) t
 
   -- the last of it alone
   abbrev pub ends_well : Words → Call → Bool
@@ -145,6 +141,7 @@ pub data Trial : Type 0 where
   -- after the call these nodes are reached
   reaches : Words → Call → List ℕ → Trial
 
+-- each case of the trial comes out as it says
 abbrev pub passes : (Words → View) → Trial → Bool
 passes look (done t ks xs) = all (well_done look ks t) xs
 passes look (ended t xs) = all (ends_well look t) xs
@@ -184,7 +181,8 @@ beside_full = set (table_of 3 (stale 1 ++ (node_words MARK 0 0 0 (ten_slots 11 1
 abbrev pub grown : Words
 grown = apply (stores_of (insertion 2 115 7 0) beside_full) beside_full
 
--- The second collection's new root stands in word 3, in a node that neither root reaches, and the first stays. A repair mends the second tree.
+-- The second collection's new root stands in word 3, in a node that neither root reaches, and the first stays. A repair mends the second
+-- tree.
 pub record Beside : Type 0 where
   pub roots : (settled grown ≡ true) × (map (at grown) (1 ∷ 3 ∷ []) ≡ 3 ∷ 4 ∷ [])
   pub maps : (map_of 1 grown ≡ map_of 1 beside_full) × (length (map_of 2 grown) ≡ 12)
@@ -204,11 +202,13 @@ trailing_leaf =
 
 pub record Reported : Type 0 where
   -- slot 4 of node 2 is hidden, in the second collection; nodes 1 and 4 are free; 2 codes in the first, 10 in the second
-  pub hidden : report (set beside_full (pointer_word 2 4) 104) ≡ (1 ∷ 2 ∷ 2 ∷ 4 ∷ 0 ∷ 0 ∷ 0 ∷ 0 ∷ []) ++ (4 ∷ 2 ∷ 1 ∷ 2 ∷ 1 ∷ 1 ∷ 10 ∷ 1 ∷ [])
+  pub hidden : report (set beside_full (pointer_word 2 4) 104) ≡ (1 ∷ 2 ∷ 2 ∷ 4 ∷ 0 ∷ 0 ∷ 0 ∷ 0 ∷ [])
+      ++ (4 ∷ 2 ∷ 1 ∷ 2 ∷ 1 ∷ 1 ∷ 10 ∷ 1 ∷ [])
   -- leaf 3 lacks its slot, 2 slots of leaf 2 trail; 4 codes in 3 nodes on 2 levels
   pub missing : report trailing_leaf ≡ (2 ∷ 1 ∷ 0 ∷ 0 ∷ 3 ∷ 2 ∷ 1 ∷ 2 ∷ []) ++ (4 ∷ 1 ∷ 3 ∷ 4 ∷ 2 ∷ 0 ∷ 0 ∷ 0 ∷ [])
   -- 2 before 4
-  pub numbers : (check_number trailing_leaf ≡ 0) × (check_number (set (set trailing_leaf 10 5) 0 2) ≡ 2) × (check_number (set trailing_leaf 10 5) ≡ 4)
+  pub numbers : (check_number trailing_leaf ≡ 0) × (check_number (set (set trailing_leaf 10 5) 0 2) ≡ 2)
+      × (check_number (set trailing_leaf 10 5) ≡ 4)
 
 pub few-reported : Reported
 unfolding everything ten_slots

@@ -1,8 +1,5 @@
 -- The starred lines of document 01's "Worked on paper", proved from the definitions as one claim.
-use mathlib.Core.Path.{◌≡◌, refl}
-use mathlib.Core.List.{List, [], ◌∷◌, ◌++◌, map}
-use Prim.Native.Nat.{ℕ, zero, suc, pred, ◌+◌, ◌*◌}
-use lib.ListN.{length, replicate}
+use Rattle.std.proofs.Common.{◌≡◌, ℕ, zero, suc, pred, ◌+◌, ◌*◌, List, [], ◌∷◌, ◌++◌, map, length, replicate, refl}
 use Rattle.std.specs.Prelude.{Ok}
 use Rattle.model.specs.Results.{refused_with, done_with}
 use Rattle.model.specs.Text.{ascii}
@@ -22,6 +19,7 @@ unfoldable pub tens : (n i : ℕ) → Words
 tens zero i = []
 tens (suc n) i = (10 * i) ∷ (100 + i) ∷ tens n (suc i)
 
+-- n slots from number i on: key 10 times the number, pointer 100 more than it
 unfoldable pub ten_slots : (n i : ℕ) → List Slot
 ten_slots zero i = []
 ten_slots (suc n) i = slot (10 * i) (100 + i) ∷ ten_slots n (suc i)
@@ -52,17 +50,21 @@ pub record Worked : Type 0 where
   pub short : (ws : Words) → length ws ≡ 39 → making 1 ws ≡ refused_with 2
   pub smallest : (ws : Words) → length ws ≡ 40 → (making 1 ws ≡ Ok tt) × (made 1 ws ≡ empty 1)
   -- Leaf slots (20,5) (25,5) (30,6): 25 is hidden.
-  pub hides : (shown MARK (in_use (slot 20 5 ∷ slot 25 5 ∷ slot 30 6 ∷ [])) ≡ slot 20 5 ∷ slot 30 6 ∷ []) × (hidden_slots MARK (in_use (slot 20 5 ∷ slot 25 5 ∷ slot 30 6 ∷ [])) ≡ slot 25 5 ∷ [])
+  pub hides : (shown MARK (in_use (slot 20 5 ∷ slot 25 5 ∷ slot 30 6 ∷ [])) ≡ slot 20 5 ∷ slot 30 6 ∷ [])
+      × (hidden_slots MARK (in_use (slot 20 5 ∷ slot 25 5 ∷ slot 30 6 ∷ [])) ≡ slot 25 5 ∷ [])
   -- Left 2, slot (40,3): key 39 goes to node 2, key 40 to node 3.
   pub routes : (route 39 2 (slot 40 3 ∷ []) ≡ 2) × (route 40 2 (slot 40 3 ∷ []) ≡ 3)
   -- Shift in with n = 10: p = 0 gives 24 stores, 3 flushes; p = 10 gives 4 and 1.
   pub shifts : (shift_counts 0 ≡ 24 ∷ 3 ∷ []) × (shift_counts 10 ≡ 4 ∷ 1 ∷ [])
   -- Root leaf with keys 10, 20 .. 110, N = 3, insert 115: new root 2, sibling 3, fence 60; 75 stores, 13 flushes.
-  pub splits : (written (insertion 1 115 7 0) 2560 0 (root_leaf 3) ≡ done_with 75 13 0) × (root after_split ≡ 2) × ((node_view after_split 1).sibling ≡ 3) × ((node_view after_split 3).fence ≡ 60)
+  pub splits : (written (insertion 1 115 7 0) 2560 0 (root_leaf 3) ≡ done_with 75 13 0) × (root after_split ≡ 2)
+      × ((node_view after_split 1).sibling ≡ 3) × ((node_view after_split 3).fence ≡ 60)
   -- The same with N = 2 returns 10.
   pub no-room : written (insertion 1 115 7 0) 2560 0 (root_leaf 2) ≡ refused_with 10
   -- The order printer's two lines, and the ten that it prints.
-  pub prints : printer (ascii "+ AA0001912345 7\n- AA0001912345\n") ≡ ascii "store 19 0\nstore 17 18446744073709551615\nstore 16 172627201912345\nstore 17 7\nflush 2\ndone 4 1\nstore 17 18446744073709551615\nstore 17 0\nflush 2\ndone 2 1\n"
+  pub prints : printer (ascii "+ AA0001912345 7\n- AA0001912345\n")
+      ≡ ascii "store 19 0\nstore 17 18446744073709551615\nstore 16 172627201912345\nstore 17 7\nflush 2\ndone 4 1\n"
+      ++ ascii "store 17 18446744073709551615\nstore 17 0\nflush 2\ndone 2 1\n"
 
 -- by the length alone
 short : (ws : Words) → length ws ≡ 39 → making 1 ws ≡ refused_with 2

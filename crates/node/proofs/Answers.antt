@@ -1,11 +1,7 @@
 -- The definitions' values, from the facts that the functions' tests establish.
-use mathlib.Core.Bool.{Bool, true, false, and-false}
-use mathlib.Core.Path.{◌≡◌, refl, sym, ◌∙◌}
-use Prim.Native.Nat.{ℕ, ◌+◌, ◌-◌, ◌*◌, ◌/◌, ◌≤◌, ◌<◌}
-use native.Mathlib.Omega.{arith}
-use lib.Dec.{leb}
-use lib.ListN.{length, take, drop, replicate}
-use borrow.Author.Tests.{leb-true, le-leb, lt-ltb, le-ltb}
+use Rattle.std.proofs.Common.{◌≡◌, ℕ, ◌+◌, ◌-◌, ◌*◌, ◌/◌, ◌<◌, ◌≤◌, Bool, true, false, leb, length, take, drop, replicate, sym, refl, ◌∙◌}
+use Rattle.std.proofs.Common.{arith, le-ltb, lt-ltb, le-leb, leb-true}
+use mathlib.Core.Bool.{and-false}
 use Rattle.model.specs.Table.{Words, at, node_start, nodes_for, length_ok, nodes, has_node, node, node_from, blank}
 use Rattle.list_laws.proofs.Tools.{refuted, same-test}
 use Rattle.table_laws.proofs.Header.{LengthFacts, length-iff, HeaderFacts}
@@ -23,6 +19,7 @@ pub nodes-in-some : (len n : ℕ) → LengthFacts len n → nodes_in len ≡ n
 unfolding nodes_in
 nodes-in-some len n f = let e = (length-iff len n).1 f in rw e.0 (sym e.1)
 
+-- if a table can have this length, the number that is read from it is its number of nodes
 pub nodes-in-sized : (len m n : ℕ) → n ≡ nodes_in len → LengthFacts len m → LengthFacts len n
 nodes-in-sized len m n e f = rw (e, nodes-in-some len m f) f
 
@@ -45,12 +42,16 @@ has-none t i h = refuted _ (λ e. let u = (has-node-iff t i).0 e in h u.0 u.1)
 
 pub has-divided : (t : Words) (i : ℕ) → (i ≡ 0 → ⊥) → 8 ≤ length t → leb i ((length t - 8) / 32) ≡ has_node t i
 has-divided t i p l =
-    same-test _ _ (λ e. (has-node-iff t i).1 (omega (arith, leb-true i ((length t - 8) / 32) e)), λ e. le-leb i ((length t - 8) / 32) (omega (arith, (has-node-iff t i).0 e)))
+    same-test _ _ (
+      λ e. (has-node-iff t i).1 (omega (arith, leb-true i ((length t - 8) / 32) e)),
+      λ e. le-leb i ((length t - 8) / 32) (omega (arith, (has-node-iff t i).0 e)),
+    )
 
 pub start-none : (t : Words) (i : ℕ) → has_node t i ≡ false → start_of t i ≡ 0
 unfolding start_of
 start-none t i h = rw h
 
+-- a node of the table begins at its first word
 pub start-some : (t : Words) (i : ℕ) → has_node t i ≡ true → start_of t i ≡ node_start i
 unfolding start_of
 start-some t i h = rw h
@@ -66,7 +67,8 @@ unfolding node_start
 start-found t i w e h = go (has_node t i) refl
   where
     go : (b : Bool) → has_node t i ≡ b → Found t i w
-    go true q = let begins : w ≡ node_start i = e ∙ start-some t i q in record { here = q; begins = begins; fits = omega (arith, (has-node-iff t i).0 q) }
+    go true q = let begins : w ≡ node_start i =
+        e ∙ start-some t i q in record { here = q; begins = begins; fits = omega (arith, (has-node-iff t i).0 q) }
     go false q = absurd (h (e ∙ start-none t i q))
 
 pub start-missing : (t : Words) (i w : ℕ) → w ≡ start_of t i → w ≡ 0 → has_node t i ≡ false
@@ -85,10 +87,12 @@ pub word-found : (t : Words) (i w j : ℕ) → Found t i w → j < 32 → word_o
 unfolding word_of
 word-found t i w j f h = rw (f.here, lt-ltb j 32 h, ← f.begins)
 
-pub node-none : (t : Words) (i : ℕ) → has_node t i ≡ false → node t i ≡ record { left = 0; sibling = 0; level = 0; fence = 0; slots = replicate 24 0 }
+pub node-none : (t : Words) (i : ℕ) → has_node t i ≡ false → node t i
+    ≡ record { left = 0; sibling = 0; level = 0; fence = 0; slots = replicate 24 0 }
 unfolding blank
 node-none t i h = node-out t i h
 
-pub node-some : (t : Words) (i w : ℕ) (slots : Words) → Found t i w → slots ≡ take 24 (drop (w + 8) t) → node t i ≡ record { left = at t w; sibling = at t (w + 1); level = at t (w + 2); fence = at t (w + 3); slots = slots }
+pub node-some : (t : Words) (i w : ℕ) (slots : Words) → Found t i w → slots ≡ take 24 (drop (w + 8) t) → node t i
+    ≡ record { left = at t w; sibling = at t (w + 1); level = at t (w + 2); fence = at t (w + 3); slots = slots }
 unfolding node_from
 node-some t i w slots f e = node-in t i f.here ∙ rw (← f.begins, e)

@@ -1,11 +1,6 @@
 -- What making answers by its tests; zeros with four stores are the empty table, with two more that of two collections.
-use mathlib.Core.Bool.{false}
-use mathlib.Core.Path.{◌≡◌, refl}
-use mathlib.Core.Logic.{◌≢◌}
-use Prim.Native.Nat.{ℕ, ◌+◌, ◌-◌, ◌*◌}
-use native.Mathlib.Omega.{arith}
-use lib.ListN.{length, set, replicate, replicate-append-replicate}
-use borrow.Author.Tests.{ne_eqb}
+use Rattle.std.proofs.Common.{◌≡◌, ℕ, ◌+◌, ◌-◌, ◌*◌, false, ◌≢◌, length, set, replicate, refl, arith, ne_eqb}
+use lib.ListN.{replicate-append-replicate}
 use Rattle.std.specs.Prelude.{Ok}
 use Rattle.model.specs.Results.{refused_with}
 use Rattle.model.specs.Table.{MARK, Words, length_ok, node_start, empty, empty_of, make_number, making, made}

@@ -1,14 +1,8 @@
 -- The header test and a collection's root: the definitions' values, from the facts that the functions' tests establish.
-use mathlib.Core.Bool.{Bool, true, false, not, cond, ◌&&◌, ◌||◌, false≢true}
-use mathlib.Core.List.{[], ◌∷◌}
-use mathlib.Core.Path.{◌≡◌, refl, ap, sym, ◌∙◌}
-use mathlib.Core.Logic.{◌≢◌, ◌⊎◌, inl, inr}
-use Prim.Native.Nat.{ℕ, ◌≤◌}
-use native.Mathlib.Omega.{arith}
-use lib.Dec.{eqb, leb}
-use lib.ListN.{length, take, drop, replicate, length-take, length-drop}
+use Rattle.std.proofs.Common.{◌≡◌, ℕ, ◌≤◌, Bool, true, false, cond, not, ◌&&◌, ◌||◌, eqb, leb, ◌≢◌, ◌⊎◌, [], ◌∷◌, length, take, drop}
+use Rattle.std.proofs.Common.{replicate, sym, refl, ap, ◌∙◌, inl, inr, arith, length-drop, length-take, ne_eqb, le-leb}
+use mathlib.Core.Bool.{false≢true}
 use lib.Pointwise.{pointwise}
-use borrow.Author.Tests.{ne_eqb, le-leb}
 use Rattle.std.specs.Prelude.{Result, Ok, Err}
 use Rattle.model.specs.declared.Refusal.{Refusal}
 use Rattle.model.specs.Results.{refused_with}
@@ -26,6 +20,7 @@ second-root n t h z = by-number t (λ (m : ℕ). m ≢ 1 → at t 3 ≡ at t (ro
 
 -- ---- what the test of words 4 to 7 says
 
+-- comparing n words with n zeros, one by one, is testing that they are all 0
 pub zeros-as-one : (ws : Words) (n : ℕ) → length ws ≡ n → pointwise eqb ws (replicate n 0) ≡ all_zero ws
 unfolding all_zero
 zeros-as-one [] n e = rw (← e) refl
@@ -92,11 +87,13 @@ root-other n t a b = rw (ne_eqb n 1 a, ne_eqb n 2 b) (go (header_ok t))
 -- ---- the answers by the root
 
 -- a root that is not 0 is that of a collection which is there
-pub root-there : (n : ℕ) (t : Words) (r : ℕ) → r ≡ root_in n t → r ≢ 0 → (header_ok t ≡ true) × (no_collection n t ≡ false) × (r ≡ at t (root_word n))
+pub root-there : (n : ℕ) (t : Words) (r : ℕ) → r ≡ root_in n t → r ≢ 0 → (header_ok t ≡ true) × (no_collection n t ≡ false)
+    × (r ≡ at t (root_word n))
 unfolding root_in
 root-there n t r e z = go (header_ok t) (no_collection n t) refl refl e
   where
-    go : (a b : Bool) → header_ok t ≡ a → no_collection n t ≡ b → r ≡ cond a (cond b 0 (at t (root_word n))) 0 → (header_ok t ≡ true) × (no_collection n t ≡ false) × (r ≡ at t (root_word n))
+    go : (a b : Bool) → header_ok t ≡ a → no_collection n t ≡ b → r ≡ cond a (cond b 0 (at t (root_word n))) 0 → (header_ok t ≡ true)
+        × (no_collection n t ≡ false) × (r ≡ at t (root_word n))
     go true false h c q = (h, c, q)
     go true true h c q = absurd (z q)
     go false b h c q = absurd (z q)
@@ -137,14 +134,19 @@ pub found-ok : (n : ℕ) (t : Words) {r : ℕ} → found_root n t ≡ Ok r → (
 unfolding found_root number_in
 found-ok n t {r} e = go (header_ok t) (no_collection n t) refl refl (done-ok _ (root_in n t) e)
   where
-    go : (a b : Bool) → header_ok t ≡ a → no_collection n t ≡ b → (cond {A = ℕ} a (cond b 17 0) 2 ≡ 0) × (root_in n t ≡ r) → (r ≡ root_in n t) × (r ≢ 0)
+    go : (a b : Bool) → header_ok t ≡ a → no_collection n t ≡ b → (cond {A = ℕ} a (cond b 17 0) 2 ≡ 0) × (root_in n t ≡ r)
+        → (r ≡ root_in n t) × (r ≢ 0)
     go true false h c q = (sym q.1, λ z. root-some n t h c (q.1 ∙ z))
     go true true h c q = absurd (omega (arith, q.0))
     go false b h c q = absurd (omega (arith, q.0))
 
-pub found-there : (n : ℕ) (t : Words) {r : ℕ} → found_root n t ≡ Ok r → (header_ok t ≡ true) × (no_collection n t ≡ false) × (r ≡ at t (root_word n))
+-- if a root is found, the header is right, the collection is there, and the root is the one in its header word
+pub found-there : (n : ℕ) (t : Words) {r : ℕ} → found_root n t ≡ Ok r → (header_ok t ≡ true) × (no_collection n t ≡ false)
+    × (r ≡ at t (root_word n))
 found-there n t e = let f = found-ok n t e in root-there n t _ f.0 f.1
 
-pub found-err : {T : Type 0} (n : ℕ) (t : Words) {r : Refusal} → found_root n t ≡ Err r → (number_in n t ≢ 0) × ◌≡◌ {A = Result T Refusal} (refused_with (number_in n t)) (Err r)
+-- if no root is found, the number is not 0, and the refusal is the one with it
+pub found-err : {T : Type 0} (n : ℕ) (t : Words) {r : Refusal} → found_root n t ≡ Err r → (number_in n t ≢ 0)
+    × ◌≡◌ {A = Result T Refusal} (refused_with (number_in n t)) (Err r)
 unfolding found_root
 found-err n t e = done-err (number_in n t) (root_in n t) e

@@ -1,12 +1,7 @@
 -- A try at a time: the cells and the tries left.
-use mathlib.Core.Path.{◌≡◌, refl, ap, sym, ◌∙◌}
-use mathlib.Core.Bool.{Bool, true, false, cond}
-use mathlib.Core.Logic.{◌≢◌}
-use Prim.Native.Nat.{ℕ, suc, ◌+◌, ◌-◌, ◌<◌, ◌%◌}
-use native.Mathlib.Omega.{arith}
-use lib.Dec.{eqb}
-use lib.ListN.{length, get_or, set}
-use borrow.Author.Tests.{eq-eqb, ne_eqb, eqb-false}
+use Rattle.std.proofs.Common.{◌≡◌, ℕ, suc, ◌+◌, ◌-◌, ◌%◌, ◌<◌, Bool, true, false, cond, eqb, ◌≢◌, length, get_or, set, sym, refl, ap, ◌∙◌}
+use Rattle.std.proofs.Common.{arith, eq-eqb, ne_eqb}
+use borrow.Author.Tests.{eqb-false}
 use Rattle.model.specs.Table.{Words}
 use Rattle.std.specs.Prelude.{Ok, Err}
 use Rattle.numbers.specs.declared.Stop.TheVariants.{Known, Full}
@@ -57,9 +52,11 @@ module _ (n : ℕ) (cs : Words) (r i m : ℕ) where
   unfolding tried
   tried-free h d e = sym (tried-next h ∙ rw (ne_eqb (get_or cs i 0) r d, eq-eqb (get_or cs i 0) 0 e, tried))
 
-  pub tried-more : 0 < m → (get_or cs i 0 ≡ r → ⊥) → (get_or cs i 0 ≡ 0 → ⊥) → (j : ℕ) → j ≡ next_cell n i → tried n cs r j (m - 1) ≡ tried n cs r i m
+  pub tried-more : 0 < m → (get_or cs i 0 ≡ r → ⊥) → (get_or cs i 0 ≡ 0 → ⊥) → (j : ℕ) → j ≡ next_cell n i
+      → tried n cs r j (m - 1) ≡ tried n cs r i m
   unfolding tried
-  tried-more h d z j q = ap (λ (k : ℕ). tried n cs r k (m - 1)) q ∙ sym (tried-next h ∙ rw (ne_eqb (get_or cs i 0) r d, ne_eqb (get_or cs i 0) 0 z, tried))
+  tried-more h d z j q =
+      ap (λ (k : ℕ). tried n cs r k (m - 1)) q ∙ sym (tried-next h ∙ rw (ne_eqb (get_or cs i 0) r d, ne_eqb (get_or cs i 0) 0 z, tried))
 
   pub tried-end : m ≡ 0 → outcome (Err Full) cs ≡ tried n cs r i m
   unfolding tried

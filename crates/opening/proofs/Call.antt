@@ -1,12 +1,7 @@
 -- The call: its refusals, one by one, and the summary that it leaves.
-use mathlib.Core.Path.{◌≡◌, ap, sym, ◌∙◌}
-use mathlib.Core.Bool.{true, false}
-use mathlib.Core.Logic.{◌≢◌}
-use mathlib.Core.List.{◌++◌}
-use Prim.Native.Nat.{ℕ, ◌*◌, ◌-◌, ◌≤◌, ◌<◌}
-use native.Mathlib.Omega.{arith}
-use lib.ListN.{length, take, drop, replicate, length-replicate}
-use borrow.Author.Tests.{eq-eqb, ne_eqb}
+use Rattle.std.proofs.Common.{◌≡◌, ℕ, ◌-◌, ◌*◌, ◌<◌, ◌≤◌, true, false, ◌≢◌, ◌++◌, length, take, drop, replicate, sym, ap, ◌∙◌, arith}
+use Rattle.std.proofs.Common.{eq-eqb, ne_eqb}
+use lib.ListN.{length-replicate}
 use Rattle.std.specs.Prelude as rust
 use Rattle.std.specs.Prelude.{None, Ok, Err, ok_or}
 use Rattle.std.proofs.lemmas.List.{take-replicate, drop-replicate}
@@ -21,7 +16,7 @@ use Rattle.model.specs.Marks.{put_each}
 use Rattle.model.specs.Cells.{entered_all}
 use Rattle.model.specs.Summary.{mark_words, cell_words, summary_words, recordings_in, opened, open_number, opening, opened_words}
 use Rattle.model.proofs.Numbers.{refused-by}
-use Rattle.table_laws.proofs.Header.{header-iff, header-number-refused}
+use Rattle.table_laws.proofs.Header.{header-iff, header-number-refused, nodes-few}
 use Rattle.two_laws.proofs.CheckTwo.{nothing-settled}
 use Rattle.two_laws.proofs.CollectionTwo.{settled-head}
 use Rattle.sound.specs.declared.Leftover.{Leftover}
@@ -31,9 +26,6 @@ use Rattle.sound.proofs.JudgeLaws.{checked-unsound}
 
 -- ---- the slice
 
-pub nodes-few : (t : Words) → header_ok t ≡ true → nodes t ≤ 65535
-nodes-few t h = ((header-iff t).0 h).size.few
-
 pub some-nodes : (t : Words) → settled t ≡ true → 1 ≤ nodes t
 some-nodes t s = ((header-iff t).0 (settled-head t s)).size.some
 
@@ -41,7 +33,8 @@ pub words-few : (t : Words) (n : ℕ) → header_ok t ≡ true → n ≡ nodes t
 words-few t n h e = omega (arith, nodes-few t h, e)
 
 -- marks in its first w words, cells in the others
-module _ (t : Words) (n : ℕ) (f : Words) (w : ℕ) (l : n ≡ summary_words (nodes t)) (z : f ≡ replicate n 0) (q : w ≡ mark_words (nodes t)) where
+module _ (t : Words) (n : ℕ) (f : Words) (w : ℕ) (l : n ≡ summary_words (nodes t)) (z : f ≡ replicate n 0)
+    (q : w ≡ mark_words (nodes t)) where
   abbrev N : ℕ
   N = nodes t
 
@@ -55,11 +48,13 @@ module _ (t : Words) (n : ℕ) (f : Words) (w : ℕ) (l : n ≡ summary_words (n
   unfolding cell_words
   some-cells h cells e = omega (arith, ap length (e ∙ others), length-replicate {A = ℕ} (16 * N) 0)
 
-  pub is-written : (marks cells ms cs : Words) → marks ≡ take w f → cells ≡ drop w f → ms ≡ put_each (reached_all t) marks → cs ≡ entered_all cells (recordings_in t) → ms ++ cs ≡ opened t
+  pub is-written : (marks cells ms cs : Words) → marks ≡ take w f → cells ≡ drop w f → ms ≡ put_each (reached_all t) marks → cs
+      ≡ entered_all cells (recordings_in t) → ms ++ cs ≡ opened t
   unfolding opened
   is-written marks cells ms cs e c i j =
       ap (λ (ws : Words). ws ++ cs) (i ∙ ap (put_each (reached_all t)) (e ∙ first-words))
-      ∙ ap (λ (ws : Words). put_each (reached_all t) (replicate (mark_words N) 0) ++ ws) (j ∙ ap (λ (ds : Words). entered_all ds (recordings_in t)) (c ∙ others))
+      ∙ ap (λ (ws : Words). put_each (reached_all t) (replicate (mark_words N) 0) ++ ws)
+      (j ∙ ap (λ (ds : Words). entered_all ds (recordings_in t)) (c ∙ others))
 
 -- ---- the answer, and the slice after it
 
@@ -83,7 +78,8 @@ module _ (t ws : Words) where
           let none : k ≡ None = grind arith in
           let same : NotSound ≡ e = grind arith in
           let z = (checked-unsound t).0 (sym c ∙ none) in
-          let q = eq-eqb (length ws) (summary_words (nodes t)) l in (ap Err (sym same) ∙ sym (refused-by NotSound) ∙ rw (h, q, z), rw (h, q, z))
+          let q = eq-eqb (length ws) (summary_words (nodes t)) l in
+          (ap Err (sym same) ∙ sym (refused-by NotSound) ∙ rw (h, q, z), rw (h, q, z))
 
       module _ (x : Leftover) (n : ℕ) (found : SoundWith t x n) where
         is-settled : is_nothing (some (meant x)) ≡ settled t

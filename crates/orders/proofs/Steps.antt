@@ -1,12 +1,7 @@
 -- The desk after orders and after stores: lists in a row, the place, the open line, lengths and counts.
-use mathlib.Core.Path.{◌≡◌, refl, sym, ap, ◌∙◌}
-use mathlib.Core.Bool.{true, false, cond}
-use mathlib.Core.List.{List, [], ◌∷◌, ◌++◌, append_assoc}
+use Rattle.std.proofs.Common.{◌≡◌, ℕ, zero, suc, ◌+◌, ◌*◌, true, false, cond, eqb, List, [], ◌∷◌, ◌++◌, length, sym, refl, ap, ◌∙◌}
+use Rattle.std.proofs.Common.{append_assoc, arith, length-set}
 use mathlib.Core.Option.{Option, none, some}
-use Prim.Native.Nat.{ℕ, zero, suc, ◌+◌, ◌*◌}
-use native.Mathlib.Omega.{arith}
-use lib.Dec.{eqb}
-use lib.ListN.{length, length-set}
 use Rattle.model.specs.Table.{line}
 use Rattle.model.specs.Orders.{Store, Order, store, flush, barrier, apply, carry, with_barriers, barred}
 use Rattle.cut_laws.specs.Growing.{due, added, open_after, closing}
@@ -54,7 +49,8 @@ noted-table-length os d = ap length (noted-table os d) ∙ length-carry os d.tab
 
 -- each order is counted once
 pub noted-counts : (os : List Order) (d : Desk)
-    → (noted_all os d).pen.counts.stores + (noted_all os d).pen.counts.flushes + (noted_all os d).pen.counts.barriers ≡ d.pen.counts.stores + d.pen.counts.flushes + d.pen.counts.barriers + length os
+    → (noted_all os d).pen.counts.stores + (noted_all os d).pen.counts.flushes + (noted_all os d).pen.counts.barriers
+    ≡ d.pen.counts.stores + d.pen.counts.flushes + d.pen.counts.barriers + length os
 unfolding noted_all noted
 noted-counts [] d = omega arith
 noted-counts (store s ∷ os) d = omega (arith, noted-counts os (noted (store s) d))
@@ -75,7 +71,8 @@ pub due-barred : (dock : ℕ) (o : Option ℕ) (s : Store) → barred dock (due 
 unfolding with_barriers
 due-barred zero o s = refl
 due-barred (suc n) none s = refl
-due-barred (suc n) (some l) s = elim (eqb (line s.word) l) as (λ b. with_barriers (cond b [] (flush l ∷ [])) ≡ cond b [] (flush l ∷ [])) [ true ↦ refl | false ↦ refl ]
+due-barred (suc n) (some l) s =
+    elim (eqb (line s.word) l) as (λ b. with_barriers (cond b [] (flush l ∷ [])) ≡ cond b [] (flush l ∷ [])) [ true ↦ refl | false ↦ refl ]
 
 pub closing-barred : (dock : ℕ) (o : Option ℕ) → barred dock (closing o) ≡ closing o
 unfolding with_barriers
@@ -92,7 +89,8 @@ open-after (suc n) s d = refl
 pub stored-open : (s : Store) (d : Desk) → open_at (stored s d) ≡ some (line s.word)
 unfolding stored
 stored-open s d =
-    ap open_at (noted_all-append (due (open_at d) s) (barred (dock_at d) (store s ∷ [])) d) ∙ open-after (dock_at d) s (noted_all (due (open_at d) s) d)
+    ap open_at (noted_all-append (due (open_at d) s) (barred (dock_at d) (store s ∷ [])) d)
+    ∙ open-after (dock_at d) s (noted_all (due (open_at d) s) d)
 
 pub stored-dock : (s : Store) (d : Desk) → (stored s d).pen.dock ≡ d.pen.dock
 unfolding stored
@@ -103,8 +101,10 @@ added-first : (dock : ℕ) (o : Option ℕ) (s : Store) (ss : List Store)
     → barred dock (added o (s ∷ ss)) ≡ (due o s ++ barred dock (store s ∷ [])) ++ barred dock (added (some (line s.word)) ss)
 unfolding added
 added-first dock o s ss =
-    barred-append dock (due o s) (store s ∷ added (some (line s.word)) ss) ∙ ap (λ q. q ++ barred dock (store s ∷ added (some (line s.word)) ss)) (due-barred dock o s)
-    ∙ ap (λ q. due o s ++ q) (barred-append dock (store s ∷ []) (added (some (line s.word)) ss)) ∙ sym (append_assoc (due o s) (barred dock (store s ∷ [])) (barred dock (added (some (line s.word)) ss)))
+    barred-append dock (due o s) (store s ∷ added (some (line s.word)) ss)
+    ∙ ap (λ q. q ++ barred dock (store s ∷ added (some (line s.word)) ss)) (due-barred dock o s)
+    ∙ ap (λ q. due o s ++ q) (barred-append dock (store s ∷ []) (added (some (line s.word)) ss))
+    ∙ sym (append_assoc (due o s) (barred dock (store s ∷ [])) (barred dock (added (some (line s.word)) ss)))
 
 -- stores note the orders that they add
 pub stored_all-noted : (ss : List Store) (d : Desk) → stored_all ss d ≡ noted_all (barred (dock_at d) (added (open_at d) ss)) d
@@ -113,9 +113,11 @@ stored_all-noted [] d = ap (λ q. noted_all q d) (sym (barred-nil (dock_at d)))
 stored_all-noted (s ∷ ss) d =
     let dock = dock_at d in
     let later = added (some (line s.word)) ss in
-    stored_all-noted ss (stored s d) ∙ ap (λ (o : Option ℕ). noted_all (barred (dock_at (stored s d)) (added o ss)) (stored s d)) (stored-open s d)
+    stored_all-noted ss (stored s d)
+    ∙ ap (λ (o : Option ℕ). noted_all (barred (dock_at (stored s d)) (added o ss)) (stored s d)) (stored-open s d)
     ∙ ap (λ (k : Dock). noted_all (barred (dock_number k) later) (stored s d)) (stored-dock s d)
-    ∙ sym (noted_all-append (due (open_at d) s ++ barred dock (store s ∷ [])) (barred dock later) d) ∙ ap (λ q. noted_all q d) (sym (added-first dock (open_at d) s ss))
+    ∙ sym (noted_all-append (due (open_at d) s ++ barred dock (store s ∷ [])) (barred dock later) d)
+    ∙ ap (λ q. noted_all q d) (sym (added-first dock (open_at d) s ss))
 
 pub stored_all-open : (ss : List Store) (d : Desk) → open_at (stored_all ss d) ≡ open_after (open_at d) ss
 unfolding stored_all open_after
@@ -130,4 +132,10 @@ stored_all-dock (s ∷ ss) d = stored_all-dock ss (stored s d) ∙ stored-dock s
 -- the working copy is the table with the stores applied
 pub stored_all-table : (ss : List Store) (d : Desk) → (stored_all ss d).table ≡ apply ss d.table
 stored_all-table ss d =
-    rw (stored_all-noted ss d, noted-table (barred (dock_at d) (added (open_at d) ss)) d, barred-carry (dock_at d) (added (open_at d) ss) d.table, carry-stores (added (open_at d) ss) d.table, added-stores (open_at d) ss)
+    rw (
+      stored_all-noted ss d,
+      noted-table (barred (dock_at d) (added (open_at d) ss)) d,
+      barred-carry (dock_at d) (added (open_at d) ss) d.table,
+      carry-stores (added (open_at d) ss) d.table,
+      added-stores (open_at d) ss,
+    )

@@ -1,13 +1,7 @@
 -- The flush that is due and the flush at the end, as the code makes them; and what room says of the place where it writes.
-use mathlib.Core.Path.{◌≡◌, refl, sym, ap, ◌∙◌}
-use mathlib.Core.Bool.{Bool, true, false, cond}
-use mathlib.Core.List.{[], ◌∷◌, ◌++◌}
+use Rattle.std.proofs.Common.{◌≡◌, ℕ, ◌+◌, ◌<◌, ◌≤◌, Bool, true, false, cond, eqb, [], ◌∷◌, ◌++◌, length, set, sym, refl, ap, ◌∙◌, arith}
+use Rattle.std.proofs.Common.{length-append, length-set, eq-eqb, ne_eqb}
 use mathlib.Core.Option.{Option, some}
-use Prim.Native.Nat.{ℕ, ◌+◌, ◌≤◌, ◌<◌}
-use native.Mathlib.Omega.{arith}
-use lib.Dec.{eqb}
-use borrow.Author.Tests.{eq-eqb, ne_eqb}
-use lib.ListN.{length, set, length-set, length-append}
 use Rattle.std.specs.Prelude.{Option as Line, Some, None}
 use Rattle.list_laws.proofs.Tools.{eqb-sym}
 use Rattle.model.specs.Table.{MARK, line}
@@ -17,8 +11,10 @@ use Rattle.cut_laws.proofs.Barriers.{barred-append}
 use Rattle.orders.specs.declared.Writer.{Writer}
 use Rattle.orders.specs.declared.Dock.{Dock}
 use Rattle.orders.specs.declared.Dock.TheVariants.{Ordered, Unordered}
-use Rattle.orders.specs.Desk.{Desk, desk, of, listed, Becomes, dock_number, dock_at, open_of, open_at, is_open, noted, noted_all, stored, turned, finished, ruled, closed, Room, Ruling}
-use Rattle.orders.proofs.Steps.{noted_all-append, noted-at, noted-list-length, noted-table-length, noted-counts, noted-dock, due-barred, closing-barred}
+use Rattle.orders.specs.Desk.{Desk, desk, of, listed, Becomes, dock_number, dock_at, open_of, open_at, is_open, noted, noted_all, stored}
+use Rattle.orders.specs.Desk.{turned, finished, ruled, closed, Room, Ruling}
+use Rattle.orders.proofs.Steps.{noted_all-append, noted-at, noted-list-length, noted-table-length, noted-counts, noted-dock, due-barred}
+use Rattle.orders.proofs.Steps.{closing-barred}
 use Rattle.orders.proofs.Rooms.{room-first}
 
 -- ---- finishing
@@ -34,13 +30,19 @@ pub finish-none : (d : Desk) (o : Line ℕ) → d.pen.line ≡ None → o ≡ No
 unfolding finished noted_all
 finish-none d o e z =
     let same : d ≡ finished d = rw e in
-    ap (λ (l : Line ℕ). desk d.table d.list (record { dock = d.pen.dock; at = d.pen.at; line = l; counts = d.pen.counts })) (z ∙ sym e) ∙ same
+    ap (λ (l : Line ℕ). desk d.table d.list (record { dock = d.pen.dock; at = d.pen.at; line = l; counts = d.pen.counts })) (z ∙ sym e)
+    ∙ same
 
 pub finish-open : (d : Desk) (l : ℕ) (o : Line ℕ) → Some l ≡ d.pen.line → o ≡ None → {u : Desk}
     → u ≡ listed MARK l (desk d.table d.list (record { dock = d.pen.dock; at = d.pen.at; line = o; counts = d.pen.counts }))
     → (let n = u.pen.counts in
     desk u.table u.list
-    (record { dock = u.pen.dock; at = u.pen.at; line = u.pen.line; counts = record { stores = n.stores; flushes = n.flushes + 1; barriers = n.barriers } }))
+    (record {
+      dock = u.pen.dock;
+      at = u.pen.at;
+      line = u.pen.line;
+      counts = record { stores = n.stores; flushes = n.flushes + 1; barriers = n.barriers };
+    }))
     ≡ finished d
 unfolding finished noted_all noted
 finish-open d l o e z q = rw (q, z, ← e)
@@ -48,7 +50,8 @@ finish-open d l o e z q = rw (q, z, ← e)
 pub room-open : (d : Desk) (l : ℕ) → Room [] d → Some l ≡ d.pen.line → d.pen.at + 2 ≤ length d.list
 unfolding added open_after
 room-open d l r e =
-    let q : length (closed (dock_at d) (open_of d.pen.line) []) ≡ 1 = ap length (closing-barred (dock_at d) (open_of d.pen.line)) ∙ rw (← e) in
+    let q : length (closed (dock_at d) (open_of d.pen.line) []) ≡ 1 =
+    ap length (closing-barred (dock_at d) (open_of d.pen.line)) ∙ rw (← e) in
     omega arith
 
 -- ---- turning to the line of a store
@@ -61,7 +64,8 @@ pub turn-other : (d : Desk) (n : ℕ) → (d.pen.line ≡ Some n → ⊥) → tu
 unfolding turned finished noted_all
 turn-other d n h = go d.pen.line refl
   where
-    go : (o : Line ℕ) → d.pen.line ≡ o → cond (is_open n d.pen.line) d (noted_all (closing (open_at d)) d) ≡ noted_all (closing (open_at d)) d
+    go : (o : Line ℕ) → d.pen.line ≡ o → cond (is_open n d.pen.line) d (noted_all (closing (open_at d)) d)
+        ≡ noted_all (closing (open_at d)) d
     go None e = rw e
     go (Some m) e = rw (e, ne_eqb m n (λ z. h (e ∙ ap Some z)))
 
@@ -91,13 +95,19 @@ rule-none d h = go d.pen.dock h
 pub rule-some : (d : Desk) → d.pen.dock ≡ Unordered → {u : Desk} → u ≡ listed BAR 0 d
     → (let n = u.pen.counts in
     desk u.table u.list
-    (record { dock = u.pen.dock; at = u.pen.at; line = u.pen.line; counts = record { stores = n.stores; flushes = n.flushes; barriers = n.barriers + 1 } }))
+    (record {
+      dock = u.pen.dock;
+      at = u.pen.at;
+      line = u.pen.line;
+      counts = record { stores = n.stores; flushes = n.flushes; barriers = n.barriers + 1 };
+    }))
     ≡ ruled d
 unfolding ruled noted
 rule-some d e q = rw (q, e)
 
 -- a store as the dock needs it
-store-ruled : (k : Dock) (s : Store) (d : Desk) → d.pen.dock ≡ k → noted_all (barred (dock_number k) (store s ∷ [])) d ≡ ruled (noted (store s) d)
+store-ruled : (k : Dock) (s : Store) (d : Desk) → d.pen.dock ≡ k → noted_all (barred (dock_number k) (store s ∷ [])) d
+    ≡ ruled (noted (store s) d)
 unfolding noted_all ruled noted with_barriers
 store-ruled Ordered s d e = rw e
 store-ruled Unordered s d e = rw e
@@ -106,7 +116,8 @@ pub stored-turned : (s : Store) (d : Desk) → ruled (noted (store s) (turned (l
 unfolding stored
 stored-turned s d =
     let due-noted = noted_all (due (open_at d) s) d in
-    ap (λ (e : Desk). ruled (noted (store s) e)) (turned-due s d) ∙ sym (store-ruled d.pen.dock s due-noted (noted-dock (due (open_at d) s) d))
+    ap (λ (e : Desk). ruled (noted (store s) e)) (turned-due s d)
+    ∙ sym (store-ruled d.pen.dock s due-noted (noted-dock (due (open_at d) s) d))
     ∙ sym (noted_all-append (due (open_at d) s) (barred (dock_at d) (store s ∷ [])) d)
 
 -- ---- room for one store
@@ -120,13 +131,20 @@ pub record Place (s : Store) (d e : Desk) : Type 0 where
   pub counts : e.pen.counts.stores + e.pen.counts.flushes + e.pen.counts.barriers ≤ e.pen.at
 
 -- the orders of one store, closed
-one-closed : (dock : ℕ) (o : Option ℕ) (s : Store) → length (closed dock o (s ∷ [])) ≡ length (due o s) + length (barred dock (store s ∷ [])) + 1
+one-closed : (dock : ℕ) (o : Option ℕ) (s : Store) → length (closed dock o (s ∷ []))
+    ≡ length (due o s) + length (barred dock (store s ∷ [])) + 1
 unfolding added open_after
 one-closed dock o s =
-    rw (barred-append dock (due o s ++ (store s ∷ [])) (flush (line s.word) ∷ []), closing-barred dock (some (line s.word)), barred-append dock (due o s) (store s ∷ []), due-barred dock o s)
+    rw (
+      barred-append dock (due o s ++ (store s ∷ [])) (flush (line s.word) ∷ []),
+      closing-barred dock (some (line s.word)),
+      barred-append dock (due o s) (store s ∷ []),
+      due-barred dock o s,
+    )
     (simp length-append)
 
-with-barrier : (k : Dock) (s : Store) → (1 ≤ length (barred (dock_number k) (store s ∷ []))) × ((k ≡ Ordered → ⊥) → length (barred (dock_number k) (store s ∷ [])) ≡ 2)
+with-barrier : (k : Dock) (s : Store) → (1 ≤ length (barred (dock_number k) (store s ∷ [])))
+    × ((k ≡ Ordered → ⊥) → length (barred (dock_number k) (store s ∷ [])) ≡ 2)
 unfolding with_barriers
 with-barrier Ordered s = (omega arith, λ z. absurd (z refl))
 with-barrier Unordered s = (omega arith, λ z. refl)
@@ -154,7 +172,12 @@ room-due s d r = room-first [] (s ∷ []) d r
 pub store-noted : (w x : ℕ) (e : Desk) {u : Desk} → u ≡ listed w x (desk (set e.table w x) e.list e.pen)
     → (let n = u.pen.counts in
     desk u.table u.list
-    (record { dock = u.pen.dock; at = u.pen.at; line = Some (line w); counts = record { stores = n.stores + 1; flushes = n.flushes; barriers = n.barriers } }))
+    (record {
+      dock = u.pen.dock;
+      at = u.pen.at;
+      line = Some (line w);
+      counts = record { stores = n.stores + 1; flushes = n.flushes; barriers = n.barriers };
+    }))
     ≡ noted (store (put w x)) e
 unfolding noted
 store-noted w x e q = rw q
@@ -162,7 +185,8 @@ store-noted w x e q = rw q
 -- once the store is listed there is room for its barrier
 pub rule-room : (s : Store) (d e : Desk) → Place s d e → {f : Desk} → f ≡ noted (store s) e → Ruling f
 unfolding noted
-rule-room s d e h q = rw q (record { space = λ z. simp length-set (omega (arith, h.barrier-space z, h.keeps)); counts = omega (arith, h.counts) })
+rule-room s d e h q =
+    rw q (record { space = λ z. simp length-set (omega (arith, h.barrier-space z, h.keeps)); counts = omega (arith, h.counts) })
 
 -- the store made and listed, with its barrier
 pub store-done : (s : Store) (d e : Desk) → {f : Desk} → f ≡ noted (store s) e → e ≡ turned (line s.word) d → ruled f ≡ stored s d

@@ -1,13 +1,9 @@
 -- Words and slots written one by one.
-use mathlib.Core.Path.{◌≡◌, refl, ap, sym, ◌∙◌}
-use mathlib.Core.Logic.{◌≢◌, ⊎_elim}
-use mathlib.Core.List.{List, [], ◌∷◌, ◌++◌, append_assoc}
-use Prim.Native.Nat.{ℕ, zero, suc, pred, min, ◌+◌, ◌-◌, ◌*◌, ◌/◌, ◌%◌, ◌≤◌, ◌<◌}
-use native.Mathlib.Omega.{arith}
-use lib.ListN.{length, set, take, drop, replicate, length-drop}
-use lib.Seq.{sets, sets-eq, drop-drop, take-take, length-take-le}
+use Rattle.std.proofs.Common.{◌≡◌, ℕ, zero, suc, pred, ◌+◌, ◌-◌, ◌*◌, ◌/◌, ◌%◌, ◌<◌, ◌≤◌, min, ◌≢◌, List, [], ◌∷◌, ◌++◌, length, take, drop}
+use Rattle.std.proofs.Common.{set, replicate, sym, refl, ap, ◌∙◌, ⊎_elim, append_assoc, arith, length-drop, length-take-le, take-take}
+use Rattle.std.proofs.Common.{drop-drop, le-ltb, lt-ltb, eq-eqb, ne_eqb}
+use lib.Seq.{sets, sets-eq}
 use borrow.Rule.Slice.PartMut.{put_mid}
-use borrow.Author.Tests.{eq-eqb, ne_eqb, lt-ltb, le-ltb}
 use Rattle.std.proofs.lemmas.List.{drop-take}
 use Rattle.model.specs.Table.{MARK, Words, at}
 use Rattle.model.specs.Slots.{Slot, slot, slots_of, slot_words}
@@ -27,7 +23,8 @@ written-over xs vs ys w k e n h =
     rw e (ap (λ (l : Words). take w xs ++ (vs ++ l)) (drop-drop k w xs ∙ ap (λ (m : ℕ). drop (w + m) xs) (sym n)))
     ∙ sym (sets-eq vs xs w (omega arith) ∙ append_assoc (take w xs) vs _)
 
-pub node-made : (left sibling level fence : ℕ) (ss : List Slot) → head_words left sibling level fence ++ slotted ss ≡ node_words left sibling level fence ss
+pub node-made : (left sibling level fence : ℕ) (ss : List Slot) → head_words left sibling level fence ++ slotted ss
+    ≡ node_words left sibling level fence ss
 unfolding node_words
 node-made left sibling level fence ss = refl
 
@@ -37,7 +34,8 @@ row-above n r e = omega (arith, e)
 
 -- ---- slots
 
-pub fill-step : (l : Words) (i : ℕ) (s : Slot) (ss : List Slot) → sets l (2 * i) (slot_words (s ∷ ss)) ≡ sets (set (set l (2 * i) s.key) (2 * i + 1) s.pointer) (2 * (i + 1)) (slot_words ss)
+pub fill-step : (l : Words) (i : ℕ) (s : Slot) (ss : List Slot) → sets l (2 * i) (slot_words (s ∷ ss))
+    ≡ sets (set (set l (2 * i) s.key) (2 * i + 1) s.pointer) (2 * (i + 1)) (slot_words ss)
 fill-step l i s ss =
     let e : 2 * i + 1 ≡ suc (2 * i) = omega arith in
     let f : 2 * (i + 1) ≡ suc (suc (2 * i)) = omega arith in
@@ -89,9 +87,12 @@ module _ (ws : Words) (m j : ℕ) where
       let ss = take 11 (drop (11 * j) (pairs_in ws m)) in
       let d : 2 * (11 * j) ≡ 22 * j = omega arith in
       let s : 22 * j + n ≡ 2 * m = omega arith in
-      let a : ss ≡ slots_of (take 22 (drop (2 * (11 * j)) (take (2 * m) ws))) = ap (take 11) (slots-drop (11 * j) (take (2 * m) ws)) ∙ slots-take 11 (drop (2 * (11 * j)) (take (2 * m) ws)) in
-      let b : drop (22 * j) (take (2 * m) ws) ≡ take n (drop (22 * j) ws) = ap (λ (i : ℕ). drop (22 * j) (take i ws)) (sym s) ∙ drop-take (22 * j) n ws in
-      let y : ss ≡ slots_of (take k (drop (22 * j) ws)) = a ∙ ap slots_of (ap (λ (i : ℕ). take 22 (drop i (take (2 * m) ws))) d ∙ ap (take 22) b ∙ taken n k (drop (22 * j) ws) q) in
+      let a : ss ≡ slots_of (take 22 (drop (2 * (11 * j)) (take (2 * m) ws))) =
+      ap (take 11) (slots-drop (11 * j) (take (2 * m) ws)) ∙ slots-take 11 (drop (2 * (11 * j)) (take (2 * m) ws)) in
+      let b : drop (22 * j) (take (2 * m) ws) ≡ take n (drop (22 * j) ws) =
+      ap (λ (i : ℕ). drop (22 * j) (take i ws)) (sym s) ∙ drop-take (22 * j) n ws in
+      let y : ss ≡ slots_of (take k (drop (22 * j) ws)) =
+      a ∙ ap slots_of (ap (λ (i : ℕ). take 22 (drop i (take (2 * m) ws))) d ∙ ap (take 22) b ∙ taken n k (drop (22 * j) ws) q) in
       let c = length-take-le k (drop (22 * j) ws) (omega (arith, q, length-drop (22 * j) ws)) in
       let e : slot_words ss ≡ take k (drop (22 * j) ws) = ap slot_words y ∙ even-words (min (m - 11 * j) 11) _ (omega (arith, c, q)) in
       let t : k ≡ length (slot_words ss) = sym (ap length e ∙ c) in
@@ -117,13 +118,15 @@ module _ (ws : Words) (k c : ℕ) where
       rw (e, f) (filled (children_from ws k c) (let l = length-children ws k c in omega arith))
 
   pub child-step : (l : Words) (i : ℕ) → i < c
-      → sets l (2 * i) (slot_words (child_rest i)) ≡ sets (set (set l (2 * i) (at ws (32 * (k + i) + 3))) (2 * i + 1) (k + i + 1)) (2 * (i + 1)) (slot_words (child_rest (i + 1)))
+      → sets l (2 * i) (slot_words (child_rest i))
+      ≡ sets (set (set l (2 * i) (at ws (32 * (k + i) + 3))) (2 * i + 1) (k + i + 1)) (2 * (i + 1)) (slot_words (child_rest (i + 1)))
   unfolding children_from
   child-step l i h =
       let e : c - i ≡ suc (c - (i + 1)) = omega arith in
       let f : k + (i + 1) ≡ suc (k + i) = omega arith in
       let g : k + i + 1 ≡ suc (k + i) = omega arith in
-      ap (λ (n : ℕ). sets l (2 * i) (slot_words (children_from ws (k + i) n))) e ∙ rw (f, g) (fill-step l i (slot (at ws (32 * (k + i) + 3)) (suc (k + i))) (children_from ws (suc (k + i)) (c - (i + 1))))
+      ap (λ (n : ℕ). sets l (2 * i) (slot_words (children_from ws (k + i) n))) e
+      ∙ rw (f, g) (fill-step l i (slot (at ws (32 * (k + i) + 3)) (suc (k + i))) (children_from ws (suc (k + i)) (c - (i + 1))))
 
   pub child-full : (l : Words) (i : ℕ) → c ≤ i → sets l (2 * i) (slot_words (child_rest i)) ≡ l
   unfolding children_from
@@ -153,7 +156,8 @@ pub needed-start : (m r : ℕ) → r ≡ suc ((m - 1) / 11) → r + nodes_above 
 unfolding nodes_needed
 needed-start m r e = rw e
 
-pub needed-step : (r left total : ℕ) → 1 < r → left ≢ 0 → total + nodes_above left r ≡ total + (r + 11) / 12 + nodes_above (left - 1) ((r + 11) / 12)
+pub needed-step : (r left total : ℕ) → 1 < r → left ≢ 0 → total + nodes_above left r
+    ≡ total + (r + 11) / 12 + nodes_above (left - 1) ((r + 11) / 12)
 unfolding nodes_above
 needed-step zero left total h z = absurd (omega arith)
 needed-step (suc zero) left total h z = absurd (omega arith)
@@ -169,20 +173,24 @@ needed-one r left total h = let e = above-one left r h in omega arith
 
 -- ---- a whole leaf
 
-pub leaf-made : (t u ws slots words : Words) (z m e j w next fence : ℕ) → slots ≡ slotted (take 11 (drop (11 * j) (pairs_in ws m))) → fence ≡ leaf_fence ws j → next ≡ next_number (z + j) (z + e)
+pub leaf-made : (t u ws slots words : Words) (z m e j w next fence : ℕ) → slots ≡ slotted (take 11 (drop (11 * j) (pairs_in ws m))) → fence
+    ≡ leaf_fence ws j → next ≡ next_number (z + j) (z + e)
     → words ≡ head_words MARK next 0 fence ++ slots → t ≡ sets u w words
     → t ≡ sets u w (node_words MARK (next_number (z + j) (z + e)) 0 (leaf_fence ws j) (take 11 (drop (11 * j) (pairs_in ws m))))
 leaf-made t u ws slots words z m e j w next fence a b c d f =
-    let q : head_words MARK next 0 fence ++ slots ≡ node_words MARK (next_number (z + j) (z + e)) 0 (leaf_fence ws j) (take 11 (drop (11 * j) (pairs_in ws m))) = rw (a, b, c)
+    let q : head_words MARK next 0 fence ++ slots
+    ≡ node_words MARK (next_number (z + j) (z + e)) 0 (leaf_fence ws j) (take 11 (drop (11 * j) (pairs_in ws m))) = rw (a, b, c)
     (node-made MARK (next_number (z + j) (z + e)) 0 (leaf_fence ws j) (take 11 (drop (11 * j) (pairs_in ws m)))) in
     f ∙ ap (sets u w) (d ∙ q)
 
 -- a whole inner node
-pub inner-made : (t u ws slots words : Words) (k c l b e w next : ℕ) → slots ≡ slotted (children_from ws (k + 1) (c - 1)) → next ≡ next_number b e → words ≡ head_words (k + 1) next l (at ws (32 * k + 3)) ++ slots → t ≡ sets u w words
+pub inner-made : (t u ws slots words : Words) (k c l b e w next : ℕ) → slots ≡ slotted (children_from ws (k + 1) (c - 1)) → next
+    ≡ next_number b e → words ≡ head_words (k + 1) next l (at ws (32 * k + 3)) ++ slots → t ≡ sets u w words
     → t ≡ sets u w (node_words (suc k) (next_number b e) l (at ws (32 * k + 3)) (children_from ws (suc k) (pred c)))
 inner-made t u ws slots words k c l b e w next a n d f =
     let i : k + 1 ≡ suc k = omega arith in
     let j : c - 1 ≡ pred c = omega arith in
-    let q : head_words (k + 1) next l (at ws (32 * k + 3)) ++ slots ≡ node_words (suc k) (next_number b e) l (at ws (32 * k + 3)) (children_from ws (suc k) (pred c)) = rw (a, n, i, j)
+    let q : head_words (k + 1) next l (at ws (32 * k + 3)) ++ slots
+    ≡ node_words (suc k) (next_number b e) l (at ws (32 * k + 3)) (children_from ws (suc k) (pred c)) = rw (a, n, i, j)
     (node-made (suc k) (next_number b e) l (at ws (32 * k + 3)) (children_from ws (suc k) (pred c))) in
     f ∙ ap (sets u w) (d ∙ q)

@@ -1,12 +1,6 @@
 -- Packing as a call: where it is accepted the table is settled, and its maps are exactly the pairs; a refusal leaves the table as it was.
-use mathlib.Core.Path.{◌≡◌, refl}
-use mathlib.Core.Bool.{Bool, true, false, not}
-use mathlib.Core.List.{List, [], ◌∷◌}
+use Rattle.std.proofs.Common.{◌≡◌, ℕ, zero, suc, ◌≤◌, Bool, true, false, not, List, [], ◌∷◌, length, refl, arith, ltb-false}
 use mathlib.Core.Option.{some}
-use Prim.Native.Nat.{ℕ, zero, suc, ◌≤◌}
-use native.Mathlib.Omega.{arith}
-use lib.ListN.{length}
-use borrow.Author.Tests.{ltb-false}
 use Rattle.model.specs.Table.{Words, nodes_for, make_number}
 use Rattle.model.specs.Slots.{Slot}
 use Rattle.model.specs.Reached.{Maps, maps_of}
@@ -41,7 +35,8 @@ pub record Accepted (n : ℕ) (pairs loans t : Words) : Type 0 where
 
 pub accepted : (n : ℕ) (pairs loans t : Words) → pack_number n pairs loans t ≡ 0 → Accepted n pairs loans t
 unfolding pack_number
-accepted n pairs loans t z = go (make_number n t) (outgrown (length t) (maps_in n pairs loans)) (maps_ok (maps_in n pairs loans)) refl refl refl z
+accepted n pairs loans t z =
+    go (make_number n t) (outgrown (length t) (maps_in n pairs loans)) (maps_ok (maps_in n pairs loans)) refl refl refl z
   where
     go : (k : ℕ) (a b : Bool) → make_number n t ≡ k → outgrown (length t) (maps_in n pairs loans) ≡ a → maps_ok (maps_in n pairs loans) ≡ b
         → unless_refused k (first_number (test a 10 ∷ test (not b) 25 ∷ [])) k ≡ 0 → Accepted n pairs loans t
@@ -74,8 +69,10 @@ module _ (n : ℕ) (pairs loans t : Words) where
 
     -- The table is settled.
     pub pack-settled : settled (pack_out n pairs loans t) ≡ true
-    pack-settled = rw out-is (packed-settled (nodes_for (length t)) m a.fits high (ok-packable m.one (parts-ok m a.ok).0) (second-packable m a.ok))
+    pack-settled = rw out-is
+        (packed-settled (nodes_for (length t)) m a.fits high (ok-packable m.one (parts-ok m a.ok).0) (second-packable m a.ok))
 
     -- Its maps are exactly these pairs: those of the first slice and, for two collections, of the second.
     pub pack-maps : maps_of (pack_out n pairs loans t) ≡ maps_in n pairs loans
-    pack-maps = rw out-is (packed-maps (nodes_for (length t)) m a.fits high (ok-packable m.one (parts-ok m a.ok).0) (second-packable m a.ok))
+    pack-maps = rw out-is
+        (packed-maps (nodes_for (length t)) m a.fits high (ok-packable m.one (parts-ok m a.ok).0) (second-packable m a.ok))

@@ -1,22 +1,23 @@
 -- How many nodes packed pairs need: by their number alone.
-use mathlib.Core.Path.{◌≡◌, refl, ap, ◌∙◌}
-use mathlib.Core.List.{List, [], ◌∷◌}
-use Prim.Native.Nat.{ℕ, zero, suc, ◌+◌, ◌*◌, ◌-◌, ◌/◌, ◌≤◌}
-use native.Mathlib.Omega.{arith}
-use native.Mathlib.Nat.{suc-mul, mul-le-mul_left}
-use lib.ListN.{length, drop, length-drop, length-map}
+use Rattle.std.proofs.Common.{◌≡◌, ℕ, zero, suc, ◌+◌, ◌-◌, ◌*◌, ◌/◌, ◌≤◌, List, [], ◌∷◌, length, drop, refl, ap, ◌∙◌, suc-mul}
+use Rattle.std.proofs.Common.{mul-le-mul_left, arith, length-drop}
+use lib.ListN.{length-map}
 use Rattle.model.specs.Slots.{Slot}
-use Rattle.model.specs.Packing.{groups, Made, leaf_from, bottom, numbered, inner_from, row_above, rows_above, packed, count_rows, packed_count}
+use Rattle.model.specs.Packing.{groups, Made, leaf_from, bottom, numbered, inner_from, row_above, rows_above, packed, count_rows}
+use Rattle.model.specs.Packing.{packed_count}
 use Rattle.pack_laws.specs.Needed.{nodes_above, nodes_needed}
 use Rattle.pack_laws.proofs.Groups.{groups-few, length-numbered}
 
+-- the groups of k + 1 have places for all items, if the fuel suffices
 pub groups-many : {A : Type 0} (k f : ℕ) (xs : List A) → length xs ≤ f → length xs ≤ suc k * length (groups (suc k) f xs)
 unfolding groups
 groups-many k zero xs h = omega arith
 groups-many k (suc f) [] h = omega arith
-groups-many k (suc f) (x ∷ xs) h = let ih = groups-many k f (drop k xs) (simp length-drop (omega arith)) in let e = length-drop k xs in omega arith
+groups-many k (suc f) (x ∷ xs) h = let ih = groups-many k f (drop k xs) (simp length-drop (omega arith)) in let e =
+    length-drop k xs in omega arith
 
 module _ (n : ℕ) (xs : List Made) where
+  -- the row above some nodes has a twelfth of them, rounded up
   pub above-length : length (row_above n xs) ≡ (length xs + 11) / 12
   unfolding row_above
   above-length =
@@ -26,13 +27,16 @@ module _ (n : ℕ) (xs : List Made) where
       let many = groups-many 11 (length xs) (numbered n xs) (omega arith) in
       length-map gs inner_from ∙ omega arith
 
+-- the nodes of the rows above some nodes are as many as are counted over a row of that length
 pub rows-count : (f n : ℕ) (xs : List Made) → count_rows (rows_above f n xs) ≡ nodes_above f (length xs)
 unfolding rows_above count_rows nodes_above
 rows-count zero n xs = refl
 rows-count (suc f) n [] = refl
 rows-count (suc f) n (x ∷ []) = refl
-rows-count (suc f) n (x ∷ y ∷ ys) = let xs = x ∷ y ∷ ys in let e = above-length n xs in rw (rows-count f (n + length xs) (row_above n xs), e)
+rows-count (suc f) n (x ∷ y ∷ ys) = let xs = x ∷ y ∷ ys in let e =
+    above-length n xs in rw (rows-count f (n + length xs) (row_above n xs), e)
 
+-- n pairs have 1 + (n - 1) / 11 leaves, the quotient rounded down
 pub bottom-length : (ps : List Slot) → length (bottom ps) ≡ suc ((length ps - 1) / 11)
 unfolding bottom
 bottom-length ps =
@@ -48,6 +52,7 @@ pub packed-count : (n : ℕ) (ps : List Slot) → count_rows (packed n ps) ≡ n
 unfolding packed count_rows nodes_needed
 packed-count n ps = let e = bottom-length ps in rw (rows-count 15 n (bottom ps), e)
 
+-- packed pairs have as many nodes as so many pairs need
 pub count-needed : (ps : List Slot) → packed_count ps ≡ nodes_needed (length ps)
 unfolding packed_count
 count-needed ps = packed-count 1 ps
@@ -67,6 +72,7 @@ above-more (suc f) (suc (suc c)) (suc (suc d)) h =
     let l : u ≤ w = omega arith in
     omega (arith, above-more f u w l)
 
+-- more pairs need no fewer nodes
 pub needed-more : (m n : ℕ) → m ≤ n → nodes_needed m ≤ nodes_needed n
 unfolding nodes_needed
 needed-more m n h =
@@ -75,6 +81,7 @@ needed-more m n h =
     let l : c ≤ d = omega arith in
     omega (arith, above-more 15 c d l)
 
+-- no node is needed above a row of one node or none
 pub above-one : (f c : ℕ) → c ≤ 1 → nodes_above f c ≡ 0
 unfolding nodes_above
 above-one zero c h = refl
@@ -97,6 +104,7 @@ above-few (suc f) (suc (suc c)) =
     let e = suc-mul f n in
     omega arith
 
+-- m pairs need at most 16 (m + 1) nodes
 pub needed-few : (m : ℕ) → nodes_needed m ≤ 16 * suc m
 unfolding nodes_needed
 needed-few m = let c = suc ((m - 1) / 11) in let a = above-few 15 c in omega arith

@@ -1,12 +1,8 @@
 -- The maps of a sound table can be packed into a table of its size: a tree that holds pairs has as many nodes as these need.
-use mathlib.Core.Path.{◌≡◌, refl}
-use mathlib.Core.Bool.{true}
-use mathlib.Core.Logic.{◌≢◌, ◌⊎◌, inl, inr}
-use mathlib.Core.List.{List, [], ◌∷◌}
-use Prim.Native.Nat.{ℕ, zero, suc, pred, ◌+◌, ◌-◌, ◌/◌, ◌≤◌}
-use native.Mathlib.Omega.{arith}
-use lib.ListN.{length, length-append, length-map}
-use borrow.Author.Tests.{eq-eqb, ne_eqb, eqb-false}
+use Rattle.std.proofs.Common.{◌≡◌, ℕ, zero, suc, pred, ◌+◌, ◌-◌, ◌/◌, ◌≤◌, true, ◌≢◌, ◌⊎◌, List, [], ◌∷◌, length, refl, inl, inr, arith}
+use Rattle.std.proofs.Common.{length-append, eq-eqb, ne_eqb}
+use lib.ListN.{length-map}
+use borrow.Author.Tests.{eqb-false}
 use Rattle.model.specs.Table.{Words, at, nodes, no_collection}
 use Rattle.model.specs.Slots.{Slot, View, view_from, view_of, height}
 use Rattle.model.specs.Reached.{flat, head_or, kept, children, reached_from, leaves_from, reached, leaves, mapping, map_of, maps_of}
@@ -47,7 +43,8 @@ module _ (v : View) where
     narrow : top ≤ width
     few : c + nodes_above f c + width ≤ all + (top + nodes_above fuel top)
 
-  lighter : (i : ℕ) (ns : List ℕ) → Each (λ (n : ℕ). length (children v n) ≤ 12) (reached_from v i ns) → (c f : ℕ) → c ≤ length (leaves_from v i ns) → Lighter (length ns) (length (reached_from v i ns)) c f
+  lighter : (i : ℕ) (ns : List ℕ) → Each (λ (n : ℕ). length (children v n) ≤ 12) (reached_from v i ns) → (c f : ℕ)
+      → c ≤ length (leaves_from v i ns) → Lighter (length ns) (length (reached_from v i ns)) c f
   unfolding reached_from leaves_from
   lighter zero ns h c f l = record { top = c; fuel = f; narrow = l; few = omega arith }
   lighter (suc i) ns h c f l =
@@ -55,10 +52,16 @@ module _ (v : View) where
       let p = lighter i (flat (children v) ns) u.1 c f l in
       let wide = flat-short (children v) 12 ns u.0 in
       let e = length-append ns (reached_from v i (flat (children v) ns)) in
-      record { top = (p.top + 11) / 12; fuel = pred p.fuel; narrow = omega (arith, p.narrow); few = omega (arith, p.few, p.narrow, above-step p.fuel p.top) }
+      record {
+        top = (p.top + 11) / 12;
+        fuel = pred p.fuel;
+        narrow = omega (arith, p.narrow);
+        few = omega (arith, p.few, p.narrow, above-step p.fuel p.top);
+      }
 
   -- with at most 11 slots to a leaf and 12 children to a node
-  tree-enough : Each (λ (n : ℕ). length (children v n) ≤ 12) (reached v) → Each (λ (n : ℕ). length (kept v n) ≤ 11) (leaves v) → 1 ≤ length (leaves v) → nodes_needed (length (mapping v)) ≤ length (reached v)
+  tree-enough : Each (λ (n : ℕ). length (children v n) ≤ 12) (reached v) → Each (λ (n : ℕ). length (kept v n) ≤ 11) (leaves v)
+      → 1 ≤ length (leaves v) → nodes_needed (length (mapping v)) ≤ length (reached v)
   unfolding nodes_needed mapping
   tree-enough h k o =
       let m = length (mapping v) in
@@ -82,7 +85,8 @@ module _ (t : Words) (r : ℕ) where
   node-short : (n : ℕ) → Good v n × NothingUnfinished v n → (length (children v n) ≤ 12) × (length (kept v n) ≤ 11)
   node-short n g =
       let k : length (kept v n) ≤ 11 = rw g.1.keeps (shown-few t n (good-parts v n g.0).0) in (
-        by-level v (λ (n : ℕ). length (kept v n) ≤ 11 → NothingUnfinished v n → length (children v n) ≤ 12) n (λ e k f. rw (no-children v n e) (omega arith))
+        by-level v (λ (n : ℕ). length (kept v n) ≤ 11 → NothingUnfinished v n → length (children v n) ≤ 12) n
+            (λ e k f. rw (no-children v n e) (omega arith))
             (λ d e k f. rw (f.names (λ z. omega arith)) (omega (arith, length-map (kept v n) (λ (s : Slot). s.pointer)))) k g.1,
         k,
       )
@@ -90,9 +94,11 @@ module _ (t : Words) (r : ℕ) where
   settled-enough : settled_view v ≡ true → nodes_needed (length (mapping v)) ≤ length (reached v)
   settled-enough h =
       let s = (settled-iff v).0 h in
-      let w = Each-map _ (λ (n : ℕ). (length (children v n) ≤ 12) × (length (kept v n) ≤ 11)) (reached v) node-short (each-both (Good v) (NothingUnfinished v) (reached v) s.orderly.good s.nothing-unfinished) in
+      let w = Each-map _ (λ (n : ℕ). (length (children v n) ≤ 12) × (length (kept v n) ≤ 11)) (reached v) node-short
+      (each-both (Good v) (NothingUnfinished v) (reached v) s.orderly.good s.nothing-unfinished) in
       let k = each-leaf v (λ (n : ℕ). length (kept v n) ≤ 11) (height v) (v.root ∷ []) (Each-map _ _ (reached v) (λ n u. u.1) w) in
-      tree-enough v (Each-map _ (λ (n : ℕ). length (children v n) ≤ 12) (reached v) (λ n u. u.0) w) k (some-length (leaves v) (level-leaves v s.orderly).some)
+      tree-enough v (Each-map _ (λ (n : ℕ). length (children v n) ≤ 12) (reached v) (λ n u. u.0) w) k
+      (some-length (leaves v) (level-leaves v s.orderly).some)
 
 -- Each collection of a sound table needs no more than its tree has after repair.
 module _ (t : Words) (s : sound t ≡ true) where
@@ -132,5 +138,7 @@ module _ (t : Words) (s : sound t ≡ true) where
   sound-enough = go (same-or-not (at t 3) 0)
     where
       go : (at t 3 ≡ 0) ⊎ (at t 3 ≢ 0) → packed_both (maps_of t) ≤ nodes t
-      go (inl z) = rw (eq-eqb (at t 3) 0 z) (omega (arith, one-enough, reached-few (view_of 1 t') (collection-orderly 1 t' again (first-there t')), same-nodes))
-      go (inr z) = rw (ne_eqb (at t 3) 0 z) (omega (arith, one-enough, two-enough z, unreachable-all t' again, count-beside t' (there z), same-nodes))
+      go (inl z) = rw (eq-eqb (at t 3) 0 z)
+          (omega (arith, one-enough, reached-few (view_of 1 t') (collection-orderly 1 t' again (first-there t')), same-nodes))
+      go (inr z) = rw (ne_eqb (at t 3) 0 z)
+          (omega (arith, one-enough, two-enough z, unreachable-all t' again, count-beside t' (there z), same-nodes))

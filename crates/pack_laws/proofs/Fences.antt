@@ -1,12 +1,10 @@
 -- Each node after its level's first has as fence the lowest key below it, on every level.
-use mathlib.Core.Path.{◌≡◌, refl, ap, sym, ◌∙◌}
-use mathlib.Core.List.{List, [], ◌∷◌, ◌++◌, map}
-use Prim.Native.Nat.{ℕ, zero, suc, ◌+◌, ◌≤◌}
-use native.Mathlib.Omega.{arith}
-use lib.ListN.{length, take, drop, take-append-drop, length-drop}
+use Rattle.std.proofs.Common.{◌≡◌, ℕ, zero, suc, ◌+◌, ◌≤◌, List, [], ◌∷◌, ◌++◌, map, length, take, drop, sym, refl, ap, ◌∙◌, arith}
+use Rattle.std.proofs.Common.{length-drop, take-append-drop}
 use Rattle.model.specs.Slots.{Slot}
 use Rattle.model.specs.Reached.{flat}
-use Rattle.model.specs.Packing.{groups, Made, lowest, leaf_from, bottom, numbered, inner_from, row_above, rows_above, packed, in_turn, Some, in_leaves, in_above, Lowest, Fenced, AllFenced}
+use Rattle.model.specs.Packing.{groups, Made, lowest, leaf_from, bottom, numbered, inner_from, row_above, rows_above, packed, in_turn, Some}
+use Rattle.model.specs.Packing.{in_leaves, in_above, Lowest, Fenced, AllFenced}
 use Rattle.list_laws.proofs.Tools.{Each, flat-append}
 use Rattle.pack_laws.proofs.Groups.{groups-joined, groups-fit}
 
@@ -37,7 +35,8 @@ bottom-fenced ps = (refl, leaves-lowest (groups 11 (length ps) (drop 11 ps)) (gr
 
 leaves-all : (ps : List Slot) → in_turn (in_leaves ps) ≡ ps
 unfolding flat
-leaves-all ps = ap (λ (l : List Slot). take 11 ps ++ l) (groups-joined 10 (length ps) (drop 11 ps) (simp length-drop (omega arith))) ∙ take-append-drop 11 ps
+leaves-all ps = ap (λ (l : List Slot). take 11 ps ++ l) (groups-joined 10 (length ps) (drop 11 ps) (simp length-drop (omega arith)))
+    ∙ take-append-drop 11 ps
 
 -- ---- a row above
 
@@ -58,9 +57,11 @@ drop-numbered : (k n : ℕ) (xs : List Made) → drop k (numbered n xs) ≡ numb
 unfolding numbered
 drop-numbered zero n xs = let e : 0 + n ≡ n = omega arith in rw e
 drop-numbered (suc k) n [] = refl
-drop-numbered (suc k) n (x ∷ xs) = let e : k + suc n ≡ suc k + n = omega arith in drop-numbered k (suc n) xs ∙ ap (λ (m : ℕ). numbered m (drop k xs)) e
+drop-numbered (suc k) n (x ∷ xs) = let e : k + suc n ≡ suc k + n =
+    omega arith in drop-numbered k (suc n) xs ∙ ap (λ (m : ℕ). numbered m (drop k xs)) e
 
-groups-lowest : (f n : ℕ) (xs : List Made) (bs : List (List Slot)) → Lowest xs bs → Lowest (map inner_from (groups 12 f (numbered n xs))) (map in_turn (groups 12 f bs))
+groups-lowest : (f n : ℕ) (xs : List Made) (bs : List (List Slot)) → Lowest xs bs
+    → Lowest (map inner_from (groups 12 f (numbered n xs))) (map in_turn (groups 12 f bs))
 unfolding groups numbered flat
 groups-lowest zero n xs bs h = tt
 groups-lowest (suc f) n [] [] h = tt
@@ -78,7 +79,8 @@ above-fenced n [] bs h = absurd h
 above-fenced n (x ∷ xs) [] h = absurd h
 above-fenced n (x ∷ xs) (b ∷ bs) h = (
   h.0,
-  rw (lowest-length xs bs h.1, drop-numbered 11 (suc n) xs) (groups-lowest (length bs) (11 + suc n) (drop 11 xs) (drop 11 bs) (lowest-drop 11 xs bs h.1)),
+  rw (lowest-length xs bs h.1, drop-numbered 11 (suc n) xs)
+      (groups-lowest (length bs) (11 + suc n) (drop 11 xs) (drop 11 bs) (lowest-drop 11 xs bs h.1)),
 )
 
 above-all : (bs : List (List Slot)) → in_turn (in_above bs) ≡ in_turn bs
@@ -86,7 +88,8 @@ above-all bs = joined-twice (groups 12 (length bs) bs) ∙ ap in_turn (groups-jo
 
 -- ---- every row
 
-rows-fenced : (f n : ℕ) (xs : List Made) (bs : List (List Slot)) (ps : List Slot) → Fenced xs bs → in_turn bs ≡ ps → AllFenced ps (rows_above f n xs) (in_above bs)
+rows-fenced : (f n : ℕ) (xs : List Made) (bs : List (List Slot)) (ps : List Slot) → Fenced xs bs → in_turn bs ≡ ps
+    → AllFenced ps (rows_above f n xs) (in_above bs)
 unfolding rows_above
 rows-fenced zero n xs bs ps h e = tt
 rows-fenced (suc f) n [] bs ps h e = tt

@@ -1,10 +1,8 @@
 -- Lists in groups of n, and rows of nodes to be made.
-use mathlib.Core.Path.{◌≡◌, refl, ap, ◌∙◌}
-use mathlib.Core.Bool.{true}
-use mathlib.Core.List.{List, [], ◌∷◌, ◌++◌, map, map-append}
-use Prim.Native.Nat.{ℕ, zero, suc, ◌+◌, ◌*◌, ◌≤◌, ◌<◌}
-use native.Mathlib.Omega.{arith}
-use lib.ListN.{length, take, drop, take-append-drop, length-take, length-drop, length-map}
+use Rattle.std.proofs.Common.{◌≡◌, ℕ, zero, suc, ◌+◌, ◌*◌, ◌<◌, ◌≤◌, true, List, [], ◌∷◌, ◌++◌, map, length, take, drop, refl, ap, ◌∙◌}
+use Rattle.std.proofs.Common.{arith, length-drop, take-append-drop, length-take}
+use mathlib.Core.List.{map-append}
+use lib.ListN.{length-map}
 use Rattle.model.specs.Table.{MARK}
 use Rattle.model.specs.Slots.{Slot, slot, recording}
 use Rattle.model.specs.Reached.{flat}
@@ -24,7 +22,8 @@ module _ {A : Type 0} (k : ℕ) where
   groups-joined zero [] h = refl
   groups-joined zero (x ∷ xs) h = absurd (omega arith)
   groups-joined (suc f) [] h = refl
-  groups-joined (suc f) (x ∷ xs) h = rw (groups-joined f (drop k xs) (simp length-drop (omega arith))) (ap (λ (l : List A). x ∷ l) (take-append-drop k xs))
+  groups-joined (suc f) (x ∷ xs) h =
+      rw (groups-joined f (drop k xs) (simp length-drop (omega arith))) (ap (λ (l : List A). x ∷ l) (take-append-drop k xs))
 
   pub groups-fit : (f : ℕ) (xs : List A) → Each (λ (g : List A). Some g × (length g ≤ suc k)) (groups (suc k) f xs)
   unfolding groups
@@ -32,6 +31,7 @@ module _ {A : Type 0} (k : ℕ) where
   groups-fit (suc f) [] = tt
   groups-fit (suc f) (x ∷ xs) = ((tt, simp length-take (omega arith)), groups-fit f (drop k xs))
 
+  -- at most (k + 1) m items make at most m groups of k + 1
   pub groups-few : (f : ℕ) (xs : List A) (m : ℕ) → length xs ≤ suc k * m → length (groups (suc k) f xs) ≤ m
   unfolding groups
   groups-few zero xs m h = omega arith
@@ -52,7 +52,8 @@ recordings-parts a b r =
 recordings-shown : (ps : List Slot) → recordings_ok ps ≡ true → AllShown MARK ps
 recordings-shown ps r = let u = pointers-apart ps r in distinct-shown MARK ps u.1 u.0
 
-pub leaves-writable : (gs : List (List Slot)) → recordings_ok (in_turn gs) ≡ true → Each (λ (g : List Slot). Some g × (length g ≤ 11)) gs → Each Writable (map leaf_from gs)
+pub leaves-writable : (gs : List (List Slot)) → recordings_ok (in_turn gs) ≡ true → Each (λ (g : List Slot). Some g × (length g ≤ 11)) gs
+    → Each Writable (map leaf_from gs)
 unfolding flat
 leaves-writable [] r h = tt
 leaves-writable (g ∷ gs) r h =
@@ -73,7 +74,8 @@ each-unit : (ss : List Slot) → Each (λ (s : Slot). Before s.key []) ss
 each-unit [] = tt
 each-unit (s ∷ ss) = (tt, each-unit ss)
 
-pub leaf-row : (k : ℕ) (s : Slot) (ss : List Slot) (gs : List (List Slot)) → rising k (s ∷ ss ++ in_turn gs) ≡ true → Each (λ (g : List Slot). Some g × (length g ≤ 11)) gs → LeafRow (leaf_with k (s ∷ ss) ∷ map leaf_from gs)
+pub leaf-row : (k : ℕ) (s : Slot) (ss : List Slot) (gs : List (List Slot)) → rising k (s ∷ ss ++ in_turn gs) ≡ true
+    → Each (λ (g : List Slot). Some g × (length g ≤ 11)) gs → LeafRow (leaf_with k (s ∷ ss) ∷ map leaf_from gs)
 unfolding flat
 leaf-row k s ss [] r h = ((rising-apart k (s ∷ ss) [] r).left, tt, each-unit (s ∷ ss), tt)
 leaf-row k s ss ([] ∷ gs) r h = absurd h.0.0
@@ -91,7 +93,8 @@ unfolding numbered
 numbered-shown p n [] h = tt
 numbered-shown p n (x ∷ xs) h = (λ e. omega arith, λ e. omega arith, numbered-shown n (suc n) xs (omega arith))
 
-inner-writable : (p : ℕ) (gs : List (List Slot)) → AllShown p (in_turn gs) → Each (λ (g : List Slot). Some g × (length g ≤ 12)) gs → Each Writable (map inner_from gs)
+inner-writable : (p : ℕ) (gs : List (List Slot)) → AllShown p (in_turn gs) → Each (λ (g : List Slot). Some g × (length g ≤ 12)) gs
+    → Each Writable (map inner_from gs)
 unfolding flat
 inner-writable p [] a h = tt
 inner-writable p ([] ∷ gs) a h = absurd h.0.0
@@ -103,7 +106,8 @@ inner-writable p ((s ∷ ss) ∷ gs) a h =
 abbrev pub ways_made : Made → List Slot
 ways_made x = slot x.fence x.left ∷ x.slots
 
-inner-ways : (gs : List (List Slot)) → Each (λ (g : List Slot). Some g × (length g ≤ 12)) gs → flat ways_made (map inner_from gs) ≡ in_turn gs
+inner-ways : (gs : List (List Slot)) → Each (λ (g : List Slot). Some g × (length g ≤ 12)) gs
+    → flat ways_made (map inner_from gs) ≡ in_turn gs
 unfolding flat
 inner-ways [] h = refl
 inner-ways ([] ∷ gs) h = absurd h.0.0
@@ -124,7 +128,8 @@ module _ (n : ℕ) (xs : List Made) where
 
   pub above-writable : 1 ≤ n → Each Writable (row_above n xs)
   unfolding row_above
-  above-writable h = inner-writable 0 (groups 12 (length xs) (numbered n xs)) (rw above-joined (numbered-shown 0 n xs (omega arith))) (groups-fit 11 (length xs) (numbered n xs))
+  above-writable h = inner-writable 0 (groups 12 (length xs) (numbered n xs)) (rw above-joined (numbered-shown 0 n xs (omega arith)))
+      (groups-fit 11 (length xs) (numbered n xs))
 
   pub above-few : (m : ℕ) → length xs ≤ 12 * m → length (row_above n xs) ≤ m
   unfolding row_above
@@ -135,7 +140,8 @@ unfolding rows_above
 rows-writable zero n xs h = tt
 rows-writable (suc f) n [] h = tt
 rows-writable (suc f) n (x ∷ []) h = tt
-rows-writable (suc f) n (x ∷ y ∷ ys) h = (above-writable n (x ∷ y ∷ ys) h, rows-writable f (n + length (x ∷ y ∷ ys)) (row_above n (x ∷ y ∷ ys)) (omega arith))
+rows-writable (suc f) n (x ∷ y ∷ ys) h =
+    (above-writable n (x ∷ y ∷ ys) h, rows-writable f (n + length (x ∷ y ∷ ys)) (row_above n (x ∷ y ∷ ys)) (omega arith))
 
 pub above-some : (n : ℕ) (x : Made) (xs : List Made) → 1 ≤ length (row_above n (x ∷ xs))
 unfolding row_above groups numbered
@@ -170,10 +176,14 @@ module _ (ps : List Slot) where
   pub bottom-writable : recordings_ok ps ≡ true → Each Writable (bottom ps)
   unfolding bottom
   bottom-writable r =
-      let u = recordings-parts (take 11 ps) (drop 11 ps) (rw (take-append-drop 11 ps) r) in
-      ((recordings-shown (take 11 ps) u.0, simp length-take (omega arith)), leaves-writable others (rw others-joined u.1) (groups-fit 10 (length ps) (drop 11 ps)))
+      let u = recordings-parts (take 11 ps) (drop 11 ps) (rw (take-append-drop 11 ps) r) in (
+        (recordings-shown (take 11 ps) u.0, simp length-take (omega arith)),
+        leaves-writable others (rw others-joined u.1) (groups-fit 10 (length ps) (drop 11 ps)),
+      )
 
 pub bottom-row : (ps : List Slot) → rising 0 ps ≡ true → LeafRow (bottom ps)
 unfolding bottom groups
 bottom-row [] r = (unfold rising in refl, tt, tt, tt)
-bottom-row (p ∷ ps) r = leaf-row 0 p (take 10 ps) (others (p ∷ ps)) (rw (others-joined (p ∷ ps), take-append-drop 10 ps) r) (groups-fit 10 (suc (length ps)) (drop 10 ps))
+bottom-row (p ∷ ps) r =
+    leaf-row 0 p (take 10 ps) (others (p ∷ ps)) (rw (others-joined (p ∷ ps), take-append-drop 10 ps) r)
+    (groups-fit 10 (suc (length ps)) (drop 10 ps))

@@ -1,15 +1,11 @@
 -- Rows of nodes stacked up to a root make a settled tree, whose map is the slots of its leaves in a row.
-use mathlib.Core.Path.{◌≡◌, refl, ap, sym, ◌∙◌}
-use mathlib.Core.Bool.{true}
-use mathlib.Core.Logic.{◌≢◌}
-use mathlib.Core.List.{List, [], ◌∷◌, ◌++◌, map, map-append, append-nil}
-use Prim.Native.Nat.{ℕ, suc, ◌≤◌}
-use native.Mathlib.Omega.{arith}
-use lib.Dec.{eqb}
+use Rattle.std.proofs.Common.{◌≡◌, ℕ, suc, ◌≤◌, true, eqb, ◌≢◌, List, [], ◌∷◌, ◌++◌, map, sym, refl, ap, ◌∙◌, append-nil, arith}
+use mathlib.Core.List.{map-append}
 use Rattle.model.specs.Table.{MARK, in_range}
 use Rattle.model.specs.Slots.{Slot, slot, View, height}
 use Rattle.model.specs.Search.{below, within}
-use Rattle.model.specs.Reached.{flat, head_or, pointers, kept, named, first_child, next_child, children, reached_from, leaves_from, reached, leaves, mapping}
+use Rattle.model.specs.Reached.{flat, head_or, pointers, kept, named, first_child, next_child, children, reached_from, leaves_from, reached}
+use Rattle.model.specs.Reached.{leaves, mapping}
 use Rattle.model.specs.SoundTest.{sibling_ok, rising, come_first, linked, child_ok, slot_ok, recordings_ok}
 use Rattle.view_laws.proofs.NodeViews.{shown_of}
 use Rattle.list_laws.proofs.Tools.{decode, or-right, all-each, Each, Each-map, Each-split, Each-append}
@@ -59,25 +55,37 @@ module _ (v : View) where
     keeps : kept v n ≡ (v.node n).shown
     first : come_first (λ (s : Slot). within v n s.key) (v.node n).shown ≡ true
 
-  sib-ok : (d n : ℕ) (ns : List ℕ) → (v.node n).level ≡ d → Each (Plain v d) ns → (v.node n).sibling ≡ head_or 0 ns → below v (head_or 0 ns) (v.node n).fence ≡ true → sibling_ok v n ≡ true
+  sib-ok : (d n : ℕ) (ns : List ℕ) → (v.node n).level ≡ d → Each (Plain v d) ns → (v.node n).sibling ≡ head_or 0 ns
+      → below v (head_or 0 ns) (v.node n).fence ≡ true → sibling_ok v n ≡ true
   unfolding sibling_ok
   sib-ok d n [] l p e b = rw e
-  sib-ok d n (m ∷ ms) l p e b = rw e (or-right (eqb m 0) _ (simp decode (p.0.range, (p.0.level ∙ sym l, below-true v (v.node n).fence m (not-zero v m p.0.range) b))))
+  sib-ok d n (m ∷ ms) l p e b =
+      rw e (or-right (eqb m 0) _ (simp decode (p.0.range, (p.0.level ∙ sym l, below-true v (v.node n).fence m (not-zero v m p.0.range) b))))
 
   fits-row : (d : ℕ) (ns : List ℕ) → Each (Plain v d) ns → linked v ns 0 ≡ true → Fits v ns → Each Stands ns
   unfolding kept
   fits-row d [] p c f = tt
   fits-row d (n ∷ ns) p c f =
       let u = (linked-cons v n ns 0).0 c in
-      let w : Each (λ (s : Slot). within v n s.key ≡ true) (v.node n).shown = rw u.0 f.0.1 in
-      (record { sib = sib-ok d n ns p.0.level p.1 u.0 f.0.0; keeps = filter-all _ (v.node n).shown w; first = each-first _ (v.node n).shown w }, fits-row d ns p.1 u.1 f.1)
+      let w : Each (λ (s : Slot). within v n s.key ≡ true) (v.node n).shown = rw u.0 f.0.1 in (
+        record {
+          sib = sib-ok d n ns p.0.level p.1 u.0 f.0.0;
+          keeps = filter-all _ (v.node n).shown w;
+          first = each-first _ (v.node n).shown w;
+        },
+        fits-row d ns p.1 u.1 f.1,
+      )
 
   -- the fences of such a row rise
-  fits-rise : (d low : ℕ) (ns : List ℕ) → Each (Plain v d) ns → Fits v ns → low ≤ (v.node (head_or 0 ns)).fence → rising low (map (way_to v) ns) ≡ true
+  fits-rise : (d low : ℕ) (ns : List ℕ) → Each (Plain v d) ns → Fits v ns → low ≤ (v.node (head_or 0 ns)).fence
+      → rising low (map (way_to v) ns) ≡ true
   fits-rise d low [] p f h = unfold rising in refl
   fits-rise d low (n ∷ []) p f h = (rising-cons low (way_to v n) []).1 (h, unfold rising in refl)
-  fits-rise d low (n ∷ m ∷ ms) p f h = (rising-cons low (way_to v n) (map (way_to v) (m ∷ ms))).1
-      (h, fits-rise d (suc (v.node n).fence) (m ∷ ms) p.1 f.1 (omega (arith, below-true v (v.node n).fence m (not-zero v m p.1.0.range) f.0.0)))
+  fits-rise d low (n ∷ m ∷ ms) p f h = (rising-cons low (way_to v n) (map (way_to v) (m ∷ ms))).1 (
+    h,
+    fits-rise d (suc (v.node n).fence) (m ∷ ms) p.1 f.1
+        (omega (arith, below-true v (v.node n).fence m (not-zero v m p.1.0.range) f.0.0)),
+  )
 
   -- ---- an inner row over the row below it
 
@@ -93,11 +101,14 @@ module _ (v : View) where
   ways-fit low [] r = tt
   ways-fit low (n ∷ []) r = (mem-each (λ (s : Slot). below v 0 s.key ≡ true) (ways_of v n) (λ s m. below-zero s.key), tt)
   ways-fit low (n ∷ m ∷ ms) r =
-      let a = rising-apart low (ways_of v n) (flat (ways_of v) (m ∷ ms)) r in
-      (Each-map _ (λ (s : Slot). below v m s.key ≡ true) (ways_of v n) (λ s h. below-high v s.key m h.0) a.between, ways-fit low (m ∷ ms) a.right)
+      let a = rising-apart low (ways_of v n) (flat (ways_of v) (m ∷ ms)) r in (
+        Each-map _ (λ (s : Slot). below v m s.key ≡ true) (ways_of v n) (λ s h. below-high v s.key m h.0) a.between,
+        ways-fit low (m ∷ ms) a.right,
+      )
 
   -- the child after n's last is the first of the next node
-  next-child : (d n : ℕ) (ns : List ℕ) → Each (Plain v (suc d)) ns → (v.node n).sibling ≡ head_or 0 ns → next_child v n ≡ head_or 0 (pointers (flat (ways_of v) ns))
+  next-child : (d n : ℕ) (ns : List ℕ) → Each (Plain v (suc d)) ns → (v.node n).sibling ≡ head_or 0 ns → next_child v n
+      ≡ head_or 0 (pointers (flat (ways_of v) ns))
   unfolding flat first_child
   next-child d n [] p e = rw e
   next-child d n (m ∷ ms) p e = ap (first_child v) e ∙ first-child v m (not-zero v m p.0.range)
@@ -111,7 +122,8 @@ module _ (v : View) where
   unfolding slot_ok child_ok
   leads-ok d s l = simp decode (ap suc l.level, l.fence)
 
-  inner-node : (d n e : ℕ) → Plain v (suc d) n → Stands n → next_child v n ≡ e → Each (Leads d) (ways_of v n) → linked v (pointers (ways_of v n)) e ≡ true
+  inner-node : (d n e : ℕ) → Plain v (suc d) n → Stands n → next_child v n ≡ e → Each (Leads d) (ways_of v n)
+      → linked v (pointers (ways_of v n)) e ≡ true
       → rising (suc (v.node n).fence) (v.node n).shown ≡ true → Fine v n × (children v n ≡ pointers (ways_of v n))
   unfolding slot_ok
   inner-node d n e p s x l c r =
@@ -121,14 +133,18 @@ module _ (v : View) where
       let g : Good v n = good-inner v d n p.level p.clear s.sib ((inner-iff v n).1 (record {
         keys = record { rise = rw s.keeps r; first = s.first };
         left = rw p.level (leads-ok d (slot (v.node n).fence (v.node n).left) l.0);
-        slots = rw (p.level, s.keeps) ((all-each (slot_ok v (suc d)) (v.node n).shown).1 (Each-map (Leads d) _ (v.node n).shown (leads-ok d) l.1));
-        range = rw (h, k) ((all-each (in_range v.nodes) (pointers (ways_of v n))).1 ((each-map _ (λ (s : Slot). s.pointer) (ways_of v n)).1 (Each-map (Leads d) _ (ways_of v n) (λ s f. f.range) l)));
+        slots = rw (p.level, s.keeps)
+            ((all-each (slot_ok v (suc d)) (v.node n).shown).1 (Each-map (Leads d) _ (v.node n).shown (leads-ok d) l.1));
+        range = rw (h, k) ((all-each (in_range v.nodes) (pointers (ways_of v n))).1
+            ((each-map _ (λ (s : Slot). s.pointer) (ways_of v n)).1 (Each-map (Leads d) _ (ways_of v n) (λ s f. f.range) l)));
         chain = rw (h, k, x) c;
       })) in
       ((g, record { shows = p.hidden; keeps = s.keeps; names = λ q. h }), h ∙ k)
 
-  inner-row : (d low : ℕ) (ns : List ℕ) → Each (Plain v (suc d)) ns → Each Stands ns → linked v ns 0 ≡ true → Each (Leads d) (flat (ways_of v) ns)
-      → linked v (pointers (flat (ways_of v) ns)) 0 ≡ true → rising low (flat (ways_of v) ns) ≡ true → Each (Fine v) ns × (flat (children v) ns ≡ pointers (flat (ways_of v) ns))
+  inner-row : (d low : ℕ) (ns : List ℕ) → Each (Plain v (suc d)) ns → Each Stands ns → linked v ns 0 ≡ true
+      → Each (Leads d) (flat (ways_of v) ns)
+      → linked v (pointers (flat (ways_of v) ns)) 0 ≡ true → rising low (flat (ways_of v) ns) ≡ true → Each (Fine v) ns
+      × (flat (children v) ns ≡ pointers (flat (ways_of v) ns))
   unfolding flat
   inner-row d low [] p s c l k r = (tt, refl)
   inner-row d low (n ∷ ns) p s c l k r =
@@ -136,9 +152,11 @@ module _ (v : View) where
       let u = (linked-cons v n ns 0).0 c in
       let a = rising-apart low (ways_of v n) rest r in
       let e = Each-split (Leads d) (ways_of v n) rest l in
-      let m : pointers (ways_of v n ++ rest) ≡ pointers (ways_of v n) ++ pointers rest = map-append (λ (s : Slot). s.pointer) (ways_of v n) rest in
+      let m : pointers (ways_of v n ++ rest) ≡ pointers (ways_of v n) ++ pointers rest =
+      map-append (λ (s : Slot). s.pointer) (ways_of v n) rest in
       let w = linked-parts (pointers (ways_of v n)) (pointers rest) 0 (rw m at k) in
-      let one = inner-node d n (head_or 0 (pointers rest)) p.0 s.0 (next-child d n ns p.1 u.0) e.0 w.0 ((rising-cons low _ (v.node n).shown).0 a.left).1 in
+      let one = inner-node d n (head_or 0 (pointers rest)) p.0 s.0 (next-child d n ns p.1 u.0) e.0 w.0
+      ((rising-cons low _ (v.node n).shown).0 a.left).1 in
       let more = inner-row d low ns p.1 s.1 u.1 e.1 w.1 a.right in
       ((one.0, more.0), rw (one.1, more.1) (sym m))
 
@@ -154,7 +172,8 @@ module _ (v : View) where
     pub leaves : leaves_from v d ns ≡ ls
     pub reach : reached_from v d ns ≡ rs
 
-  leaf-fine : (ns : List ℕ) → Each (Plain v 0) ns → Each Stands ns → Each (λ (n : ℕ). ((v.node n).left ≡ MARK) × (rising (v.node n).fence (v.node n).shown ≡ true)) ns → Each (Fine v) ns
+  leaf-fine : (ns : List ℕ) → Each (Plain v 0) ns → Each Stands ns
+      → Each (λ (n : ℕ). ((v.node n).left ≡ MARK) × (rising (v.node n).fence (v.node n).shown ≡ true)) ns → Each (Fine v) ns
   leaf-fine [] p s l = tt
   leaf-fine (n ∷ ns) p s l = (
     (
@@ -169,7 +188,8 @@ module _ (v : View) where
   pub stack-leaves : (ns : List ℕ) → Each (Plain v 0) ns → linked v ns 0 ≡ true → Fits v ns → (v.node (head_or 0 ns)).fence ≡ 0
       → Each (λ (n : ℕ). ((v.node n).left ≡ MARK) × (rising (v.node n).fence (v.node n).shown ≡ true)) ns → Stack 0 ns ns ns
   unfolding reached_from leaves_from
-  stack-leaves ns p c f z l = record { plain = p; chain = c; fits = f; first = z; fine = leaf-fine ns p (fits-row 0 ns p c f) l; leaves = refl; reach = refl }
+  stack-leaves ns p c f z l =
+      record { plain = p; chain = c; fits = f; first = z; fine = leaf-fine ns p (fits-row 0 ns p c f) l; leaves = refl; reach = refl }
 
   plain-leads : (d : ℕ) (ns : List ℕ) → Each (Plain v d) ns → Each (Leads d) (map (way_to v) ns)
   plain-leads d [] p = tt
@@ -193,7 +213,8 @@ module _ (v : View) where
   head-ways (n ∷ ns) = refl
 
   -- a row whose ways, in a row, are those to the nodes of the row below
-  pub stack-up : (d : ℕ) (ns ms ls rs : List ℕ) → Stack d ms ls rs → Each (Plain v (suc d)) ns → linked v ns 0 ≡ true → flat (ways_of v) ns ≡ map (way_to v) ms → Stack (suc d) ns ls (ns ++ rs)
+  pub stack-up : (d : ℕ) (ns ms ls rs : List ℕ) → Stack d ms ls rs → Each (Plain v (suc d)) ns → linked v ns 0 ≡ true → flat (ways_of v) ns
+      ≡ map (way_to v) ms → Stack (suc d) ns ls (ns ++ rs)
   unfolding reached_from leaves_from
   stack-up d ns ms ls rs s p c e =
       let r : rising 0 (flat (ways_of v) ns) ≡ true = rw e (fits-rise d 0 ms s.plain s.fits (omega arith)) in
@@ -201,18 +222,30 @@ module _ (v : View) where
       let k : pointers (flat (ways_of v) ns) ≡ ms = ap pointers e ∙ ways-numbers ms in
       let w = inner-row d 0 ns p (fits-row (suc d) ns p c f) c (rw e (plain-leads d ms s.plain)) (rw k s.chain) r in
       let q : flat (children v) ns ≡ ms = w.1 ∙ k in
-      record { plain = p; chain = c; fits = f; first = sym (head-ways ns) ∙ ap head_key e ∙ head-way ms ∙ s.first; fine = rw q (Each-append (Fine v) ns _ w.0 s.fine); leaves = rw q s.leaves; reach = rw (q, s.reach) }
+      record {
+        plain = p;
+        chain = c;
+        fits = f;
+        first = sym (head-ways ns) ∙ ap head_key e ∙ head-way ms ∙ s.first;
+        fine = rw q (Each-append (Fine v) ns _ w.0 s.fine);
+        leaves = rw q s.leaves;
+        reach = rw (q, s.reach);
+      }
 
   -- Rows stacked up to the root are a settled tree; its map is the slots of the leaves.
   pub stack-map : (ls rs : List ℕ) → Stack (height v) (v.root ∷ []) ls rs → mapping v ≡ flat (shown_of v) ls
   unfolding mapping
   stack-map ls rs s =
       ap (flat (kept v)) s.leaves
-      ∙ flat-each (kept v) (shown_of v) ls (rw s.leaves at (each-leaf v (λ (n : ℕ). kept v n ≡ (v.node n).shown) (height v) (v.root ∷ []) (Each-map (Fine v) _ (reached v) (λ n f. f.1.keeps) s.fine)))
+      ∙ flat-each (kept v) (shown_of v) ls
+      (rw s.leaves at (each-leaf v (λ (n : ℕ). kept v n ≡ (v.node n).shown) (height v) (v.root ∷ [])
+      (Each-map (Fine v) _ (reached v) (λ n f. f.1.keeps) s.fine)))
 
-  pub stack-settled : (ls rs : List ℕ) → Stack (height v) (v.root ∷ []) ls rs → height v ≤ 15 → recordings_ok (flat (shown_of v) ls) ≡ true → SettledTree v
+  pub stack-settled : (ls rs : List ℕ) → Stack (height v) (v.root ∷ []) ls rs → height v ≤ 15
+      → recordings_ok (flat (shown_of v) ls) ≡ true → SettledTree v
   stack-settled ls rs s h r =
-      let t : RootFacts v = record { range = s.plain.0.range; level = h; fence = s.first; sibling = ((linked-cons v v.root [] 0).0 s.chain).0 } in
+      let t : RootFacts v =
+      record { range = s.plain.0.range; level = h; fence = s.first; sibling = ((linked-cons v v.root [] 0).0 s.chain).0 } in
       let g = Each-map (Fine v) (Good v) (reached v) (λ n f. f.0) s.fine in
       record {
         orderly = record { top = t; good = g; once = once-follows v t g; recordings = rw (stack-map ls rs s) r };

@@ -1,13 +1,6 @@
 -- The header, the whole table, and the call.
-use mathlib.Core.Path.{◌≡◌, refl, ap, sym, ◌∙◌}
-use mathlib.Core.Bool.{Bool, true, false}
-use mathlib.Core.Logic.{◌≢◌}
-use mathlib.Core.List.{◌++◌}
-use Prim.Native.Nat.{ℕ, zero, suc, ◌+◌, ◌-◌, ◌*◌, ◌/◌, ◌≤◌}
-use native.Mathlib.Omega.{arith}
-use lib.Dec.{ltb}
-use lib.ListN.{length, take, drop}
-use borrow.Author.Tests.{ltb-false}
+use Rattle.std.proofs.Common.{◌≡◌, ℕ, zero, suc, ◌+◌, ◌-◌, ◌*◌, ◌/◌, ◌≤◌, Bool, true, false, ltb, ◌≢◌, ◌++◌, length, take, drop, sym, refl}
+use Rattle.std.proofs.Common.{ap, ◌∙◌, arith, ltb-false}
 use Rattle.std.specs.Prelude.{Ok, Err}
 use Rattle.model.specs.declared.Refusal.{Refusal}
 use Rattle.model.specs.declared.Refusal.TheVariants.{NoNodes, BadPairs}
@@ -28,6 +21,7 @@ unfolding packed_table
 table-packed n m = refl
 
 module _ (t : Words) (top : ℕ) (long : length t ≡ 8 + 32 * top) where
+  -- the words of a table after its header are 32 for each node
   pub nodes-long : length (take (length t - 8) (drop 8 t)) ≡ 32 * top
   nodes-long = rest-long t 8 ∙ omega (arith, long)
 
@@ -35,9 +29,12 @@ module _ (t : Words) (top : ℕ) (long : length t ≡ 8 + 32 * top) where
   pub nodes-count : length (take (length t - 8) (drop 8 t)) / 32 ≡ top
   nodes-count = omega (arith, nodes-long)
 
-  pub put-back : (w : Words) → length w ≡ length (take (length t - 8) (drop 8 t)) → 8 ≤ length (take 8 t ++ (w ++ drop (length t - 8) (drop 8 t)))
+  -- after nodes of the same length are put back, the table still has its header words
+  pub put-back : (w : Words) → length w ≡ length (take (length t - 8) (drop 8 t))
+      → 8 ≤ length (take 8 t ++ (w ++ drop (length t - 8) (drop 8 t)))
   put-back w e = let n = ap length (back-is t 8 w) ∙ back-long t 8 (omega (arith, long)) w (e ∙ rest-long t 8) in omega (arith, n, long)
 
+  -- packed nodes that are put back under a header with their roots are the packed table
   pub put-table : (m : Maps) (w x : Words) (one two : ℕ) → w ≡ packed_nodes top m → (one ≡ packed_count m.one) × (two ≡ second_root m)
       → x ≡ header_words one two top ++ drop 8 (take 8 t ++ (w ++ drop (length t - 8) (drop 8 t))) → x ≡ packed_table top m
   put-table m w x one two a b c =

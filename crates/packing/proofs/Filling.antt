@@ -1,12 +1,7 @@
 -- The nodes of one collection: its pairs copied behind the nodes before, and packed there; then those of both.
-use mathlib.Core.Path.{◌≡◌, refl, ap, sym, ◌∙◌}
-use mathlib.Core.Logic.{◌≢◌}
-use mathlib.Core.List.{List, ◌++◌, append_assoc}
-use Prim.Native.Nat.{ℕ, suc, ◌+◌, ◌-◌, ◌*◌, ◌/◌, ◌≤◌}
-use native.Mathlib.Omega.{arith}
-use lib.ListN.{length, take, drop, replicate}
-use lib.Seq.{sets, sets-eq, length-sets, take_at, drop_at, take_all, length-take-le}
-use borrow.Author.Tests.{eq-eqb, ne_eqb}
+use Rattle.std.proofs.Common.{◌≡◌, ℕ, suc, ◌+◌, ◌-◌, ◌*◌, ◌/◌, ◌≤◌, ◌≢◌, List, ◌++◌, length, take, drop, replicate, sym, refl, ap, ◌∙◌}
+use Rattle.std.proofs.Common.{append_assoc, arith, length-take-le, take_all, take_at, drop_at, eq-eqb, ne_eqb}
+use lib.Seq.{sets, sets-eq, length-sets}
 use Rattle.model.specs.Table.{Words}
 use Rattle.model.specs.Slots.{Slot, slots_of}
 use Rattle.model.specs.Reached.{Maps}
@@ -30,7 +25,8 @@ pairs-long ws = length-take-le (2 * (length ws / 2)) ws (omega arith)
 first-pairs : (ws : Words) → slots_of (take (2 * (length ws / 2)) ws) ≡ slots_of ws
 first-pairs ws = sym (slots-take (length ws / 2) ws) ∙ take_all (length ws / 2) (slots_of ws) (omega (arith, pairs-count ws))
 
-module _ (words pairs : Words) (before top : ℕ) (long : length words ≡ 32 * top) (few : top ≤ 65535) (room : before + nodes_needed (length pairs / 2) ≤ top) where
+module _ (words pairs : Words) (before top : ℕ) (long : length words ≡ 32 * top) (few : top ≤ 65535)
+    (room : before + nodes_needed (length pairs / 2) ≤ top) where
   abbrev w : ℕ
   w = 32 * before
 
@@ -66,12 +62,15 @@ module _ (words pairs : Words) (before top : ℕ) (long : length words ≡ 32 * 
     pub pack-fits : (length whole ≡ 32 * top) × (top ≤ 65535) × (before + nodes_needed count ≤ top) × (count ≤ 16777216)
     pack-fits = (whole-long ∙ long, few, room, (let r = (room-facts before count top room).0 in omega (arith, r, few)))
 
-    pub filled : (x : Words) (root : ℕ) → x ≡ packed_after before top whole (pairs_after before whole count) → root ≡ before + packed_count (pairs_after before whole count)
+    pub filled : (x : Words) (root : ℕ) → x ≡ packed_after before top whole (pairs_after before whole count) → root
+        ≡ before + packed_count (pairs_after before whole count)
         → (x ≡ packed_after before top words (slots_of pairs)) × (root ≡ before + packed_count (slots_of pairs))
     filled x root a c =
         let same : take w whole ≡ take w words = ap (take w) split ∙ take_at (take w words) _ w head-long in (
           a ∙ ap (packed_after before top whole) whole-pairs
-              ∙ ap (λ (y : Words). y ++ (packed_words (suc before) (slots_of pairs) ++ replicate (32 * (top - (before + packed_count (slots_of pairs)))) 0)) same,
+              ∙ ap (λ (y : Words). y
+              ++ (packed_words (suc before) (slots_of pairs) ++ replicate (32 * (top - (before + packed_count (slots_of pairs)))) 0))
+              same,
           c ∙ ap (λ (ps : List Slot). before + packed_count ps) whole-pairs,
         )
 
@@ -121,6 +120,7 @@ module _ (n : ℕ) (pairs loans words : Words) (top : ℕ) (fits : packed_both (
           let tail = packed_words (suc c) qs ++ replicate (32 * (top - (c + packed_count qs))) 0 in
           rw (ne_eqb n 1 o) (
             x ∙ ap (λ (k : ℕ). packed_after k top w₁ qs) root-is
-                ∙ ap (λ (l : Words). l ++ tail) (ap (take (32 * c)) w-is ∙ take_at (packed_words 1 ps) (replicate (32 * (top - c)) 0) (32 * c) (words-long 1 ps)),
+                ∙ ap (λ (l : Words). l ++ tail)
+                (ap (take (32 * c)) w-is ∙ take_at (packed_words 1 ps) (replicate (32 * (top - c)) 0) (32 * c) (words-long 1 ps)),
             (root-is, y ∙ ap (λ (k : ℕ). k + packed_count qs) root-is),
           )

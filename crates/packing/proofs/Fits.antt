@@ -1,12 +1,6 @@
 -- Whether the packing fits, by the lengths of the slices; whether the pairs of each collection may be its map.
-use mathlib.Core.Path.{◌≡◌, ap, sym, ◌∙◌}
-use mathlib.Core.Bool.{Bool, true, false, ◌&&◌}
-use mathlib.Core.Logic.{◌≢◌, ⊎_elim}
-use Prim.Native.Nat.{ℕ, min, ◌+◌, ◌/◌, ◌≤◌}
-use native.Mathlib.Omega.{arith}
-use lib.Dec.{ltb}
-use lib.ListN.{length}
-use borrow.Author.Tests.{eq-eqb, ne_eqb, lt-ltb, ltb-true}
+use Rattle.std.proofs.Common.{◌≡◌, ℕ, ◌+◌, ◌/◌, ◌≤◌, min, Bool, true, false, ◌&&◌, ltb, ◌≢◌, length, sym, ap, ◌∙◌, ⊎_elim, arith, ltb-true}
+use Rattle.std.proofs.Common.{lt-ltb, eq-eqb, ne_eqb}
 use Rattle.std.proofs.lemmas.Bool.{cases_lt}
 use Rattle.model.specs.Table.{Words}
 use Rattle.model.specs.Slots.{slots_of}
@@ -28,7 +22,8 @@ needed-many pairs h = omega (arith, h)
 pub needed-capped : (pairs p n : ℕ) → p ≡ min pairs 16777216 → n ≡ nodes_needed p → min n 65536 ≡ min 65536 (nodes_needed pairs)
 needed-capped pairs p n e f =
     ⊎_elim (λ h. let a = needed-many pairs (omega (arith, h)) in let b = needed-many p (omega (arith, e, h)) in omega (arith, a, b, f))
-    (λ h. let same : p ≡ pairs = omega (arith, e, h) in let g : n ≡ nodes_needed pairs = rw same at f in omega (arith, g)) (cases_lt 16777216 pairs)
+    (λ h. let same : p ≡ pairs = omega (arith, e, h) in let g : n ≡ nodes_needed pairs = rw same at f in omega (arith, g))
+    (cases_lt 16777216 pairs)
 
 pub slice-needs : (ws : Words) → packed_count (slots_of ws) ≡ nodes_needed (length ws / 2)
 slice-needs ws = count-needed (slots_of ws) ∙ ap nodes_needed (pairs-count ws)
@@ -46,14 +41,19 @@ module _ (n : ℕ) (pairs loans : Words) where
     pub grows-alone : n ≡ 1 → ltb top one ≡ ltb top (packed_both (maps_in n pairs loans))
     grows-alone e =
         let b = both-alone e in
-        same-test (ltb top one) (ltb top (packed_both (maps_in n pairs loans)))
-        ((λ h. let k = ltb-true top one h in lt-ltb top _ (omega (arith, a, b, k))), λ h. let k = ltb-true top _ h in lt-ltb top one (omega (arith, a, b, k, few)))
+        same-test (ltb top one) (ltb top (packed_both (maps_in n pairs loans))) (
+          (λ h. let k = ltb-true top one h in lt-ltb top _ (omega (arith, a, b, k))),
+          λ h. let k = ltb-true top _ h in lt-ltb top one (omega (arith, a, b, k, few)),
+        )
 
-    pub grows-beside : n ≢ 1 → (two : ℕ) → two ≡ min 65536 (nodes_needed (length loans / 2)) → ltb top (one + two) ≡ ltb top (packed_both (maps_in n pairs loans))
+    pub grows-beside : n ≢ 1 → (two : ℕ) → two ≡ min 65536 (nodes_needed (length loans / 2)) → ltb top (one + two)
+        ≡ ltb top (packed_both (maps_in n pairs loans))
     grows-beside e two c =
         let b = both-beside e in
-        same-test (ltb top (one + two)) (ltb top (packed_both (maps_in n pairs loans)))
-        ((λ h. let k = ltb-true top (one + two) h in lt-ltb top _ (omega (arith, a, b, c, k))), λ h. let k = ltb-true top _ h in lt-ltb top (one + two) (omega (arith, a, b, c, k, few)))
+        same-test (ltb top (one + two)) (ltb top (packed_both (maps_in n pairs loans))) (
+          (λ h. let k = ltb-true top (one + two) h in lt-ltb top _ (omega (arith, a, b, c, k))),
+          λ h. let k = ltb-true top _ h in lt-ltb top (one + two) (omega (arith, a, b, c, k, few)),
+        )
 
   -- ---- the pairs
 

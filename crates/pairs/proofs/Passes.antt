@@ -1,13 +1,8 @@
 -- Recording numbers entered in passes: one number, the pairs of a slice; what the passes come to, for any list of numbers.
-use mathlib.Core.Path.{◌≡◌, refl, ap, sym, subst, ◌∙◌}
-use mathlib.Core.Bool.{Bool, true, false, false≢true}
-use mathlib.Core.Logic.{◌↔◌, ◌⊎◌, inl, inr, ⊎_elim}
-use mathlib.Core.List.{List, [], ◌∷◌, ◌++◌, map, Memᴰ}
-use Prim.Native.Nat.{ℕ, ◌+◌, ◌≤◌, ◌<◌}
-use native.Mathlib.Omega.{arith}
-use lib.Dec.{leb, ltb}
-use lib.ListN.{length}
-use borrow.Author.Tests.{le-leb, lt-ltb, leb-true, ltb-true, ltb-false}
+use Rattle.std.proofs.Common.{◌≡◌, ℕ, ◌+◌, ◌<◌, ◌≤◌, Bool, true, false, ltb, leb, ◌⊎◌, ◌↔◌, List, [], ◌∷◌, ◌++◌, map, length, sym, refl, ap}
+use Rattle.std.proofs.Common.{◌∙◌, subst, inl, inr, ⊎_elim, arith, ltb-false, ltb-true, lt-ltb, le-leb, leb-true}
+use mathlib.Core.Bool.{false≢true}
+use mathlib.Core.List.{Memᴰ}
 use Rattle.model.specs.Table.{Words, at}
 use Rattle.model.specs.Slots.{Slot, slots_of, recording, recording_of}
 use Rattle.model.specs.Reached.{filter}
@@ -41,13 +36,15 @@ module _ {p : ℕ → Bool} {o : Outcome} {ws cs : Words} (k : Entering p o ws c
   unfolding entered_all
   enter-end h = sym (ap (λ (ss : List Slot). entered_all p (map recording ss) cs) (no-pair ws h)) ∙ k.comes-to
 
-  module _ (pair rest : Words) (w : ws ≡ pair ++ rest) (two : length pair ≡ 2) (r : ℕ) (own : r ≡ recording_of (at pair 1)) (e : Entry) (after : Words) (q : outcome e after ≡ entered_if p cs r) where
+  module _ (pair rest : Words) (w : ws ≡ pair ++ rest) (two : length pair ≡ 2) (r : ℕ) (own : r ≡ recording_of (at pair 1)) (e : Entry)
+      (after : Words) (q : outcome e after ≡ entered_if p cs r) where
     abbrev later : Words → Outcome
     later = entered_all p (map recording (slots_of rest))
 
     enter-next : o ≡ followed (entered_if p cs r) later
     unfolding entered_all
-    enter-next = sym k.comes-to ∙ ap (λ (ss : List Slot). entered_all p (map recording ss) cs) (first-pair ws pair rest w two) ∙ ap (λ (n : ℕ). followed (entered_if p cs n) later) (sym own)
+    enter-next = sym k.comes-to ∙ ap (λ (ss : List Slot). entered_all p (map recording ss) cs) (first-pair ws pair rest w two)
+        ∙ ap (λ (n : ℕ). followed (entered_if p cs n) later) (sym own)
 
     pub enter-goes : e ≡ Ok tt → Entering p o rest after
     enter-goes a = record { comes-to = goes-on later o (entered_if p cs r) e after enter-next q a }
@@ -57,15 +54,20 @@ module _ {p : ℕ → Bool} {o : Outcome} {ws cs : Words} (k : Entering p o ws c
 
 -- ---- the passes
 
-once-cons : (p : ℕ → Bool) (x : ℕ) (xs : List ℕ) → (distinct (filter p (x ∷ xs)) ≡ true) ↔ ((p x ≡ true → elem x xs ≡ false) × (distinct (filter p xs) ≡ true))
+once-cons : (p : ℕ → Bool) (x : ℕ) (xs : List ℕ)
+    → (distinct (filter p (x ∷ xs)) ≡ true) ↔ ((p x ≡ true → elem x xs ≡ false) × (distinct (filter p xs) ≡ true))
 once-cons p x xs = go (p x) refl
   where
     go : (b : Bool) → p x ≡ b → (distinct (filter p (x ∷ xs)) ≡ true) ↔ ((p x ≡ true → elem x xs ≡ false) × (distinct (filter p xs) ≡ true))
     go true e = (
-      (λ h. let u = (distinct-cons x (filter p xs)).0 (sym (ap distinct (filter-yes p x xs e)) ∙ h) in ((λ _. sym (elem-filter p x xs e) ∙ u.0), u.1)),
+      (λ h. let u = (distinct-cons x (filter p xs)).0 (sym (ap distinct (filter-yes p x xs e)) ∙ h) in
+          ((λ _. sym (elem-filter p x xs e) ∙ u.0), u.1)),
       λ h. ap distinct (filter-yes p x xs e) ∙ (distinct-cons x (filter p xs)).1 (elem-filter p x xs e ∙ h.0 e, h.1),
     )
-    go false e = ((λ h. ((λ t. absurd (false≢true (sym e ∙ t))), sym (ap distinct (filter-no p x xs e)) ∙ h)), λ h. ap distinct (filter-no p x xs e) ∙ h.1)
+    go false e = (
+      (λ h. ((λ t. absurd (false≢true (sym e ∙ t))), sym (ap distinct (filter-no p x xs e)) ∙ h)),
+      λ h. ap distinct (filter-no p x xs e) ∙ h.1,
+    )
 
 -- a number that is twice in a pass is there twice
 once-part : (p : ℕ → Bool) (xs : List ℕ) → distinct xs ≡ true → distinct (filter p xs) ≡ true
@@ -77,7 +79,8 @@ twice-part : (p : ℕ → Bool) (xs : List ℕ) → distinct (filter p xs) ≡ f
 twice-part p xs h = refuted (distinct xs) (λ t. false≢true (sym h ∙ once-part p xs t))
 
 -- where each number of s is in the one part or the other
-once-joined : (p q s : ℕ → Bool) → ((x : ℕ) → s x ≡ true → (p x ≡ true) ⊎ (q x ≡ true)) → (xs : List ℕ) → distinct (filter p xs) ≡ true → distinct (filter q xs) ≡ true → distinct (filter s xs) ≡ true
+once-joined : (p q s : ℕ → Bool) → ((x : ℕ) → s x ≡ true → (p x ≡ true) ⊎ (q x ≡ true)) → (xs : List ℕ) → distinct (filter p xs) ≡ true
+    → distinct (filter q xs) ≡ true → distinct (filter s xs) ≡ true
 unfolding filter
 once-joined p q s c [] a b = a
 once-joined p q s c (x ∷ xs) a b =
@@ -100,7 +103,11 @@ pub record Passed (xs : List ℕ) (low width : ℕ) : Type 0 where
 
 pub pass-start : (xs : List ℕ) → Passed xs 0 4294967296
 unfolding distinct
-pass-start xs = record { some = omega arith; small = omega arith; so-far = ap distinct (filter-none (in_pass 0 0) xs (mem-each (λ (x : ℕ). in_pass 0 0 x ≡ false) xs none)) }
+pass-start xs = record {
+  some = omega arith;
+  small = omega arith;
+  so-far = ap distinct (filter-none (in_pass 0 0) xs (mem-each (λ (x : ℕ). in_pass 0 0 x ≡ false) xs none));
+}
   where
     none : (x : ℕ) → Memᴰ x xs → in_pass 0 0 x ≡ false
     none x m = refuted (in_pass 0 0 x) (λ h. let u = (in-pass 0 0 x).0 h in omega (arith, u.1))

@@ -1,12 +1,6 @@
 -- The pairs of a slice, one by one: what is left from pair i on.
-use mathlib.Core.Path.{◌≡◌, refl, ap, ap₂, sym, ◌∙◌}
-use mathlib.Core.Bool.{Bool, true, false, not, ◌&&◌, ◌||◌}
-use mathlib.Core.List.{List, [], ◌∷◌, ◌++◌, map}
-use Prim.Native.Nat.{ℕ, zero, suc, ◌+◌, ◌-◌, ◌*◌, ◌/◌, ◌≤◌, ◌<◌}
-use native.Mathlib.Omega.{arith}
-use lib.Dec.{eqb, ltb}
-use lib.ListN.{length, drop}
-use borrow.Author.Tests.{le-leb, ltb-true, ltb-false}
+use Rattle.std.proofs.Common.{◌≡◌, ℕ, zero, suc, ◌+◌, ◌-◌, ◌*◌, ◌/◌, ◌<◌, ◌≤◌, Bool, true, false, not, ◌&&◌, ◌||◌, eqb, ltb, List, [], ◌∷◌}
+use Rattle.std.proofs.Common.{◌++◌, map, length, drop, sym, refl, ap, ◌∙◌, ap₂, arith, ltb-false, ltb-true, le-leb}
 use Rattle.std.specs.Slice.Iter.{chunks_exact_rest, chunks_exact_size, chunks_exact_steps}
 use Rattle.std.proofs.lemmas.Iterator.{YieldsList}
 use Rattle.std.specs.List.{list_all, list_any, range_with_len}
@@ -31,7 +25,8 @@ module _ (ws : Words) where
   -- ---- the keys rise
 
   -- from pair i on, each above the one before it
-  listed-rise : (i m : ℕ) → 1 ≤ i → length ws / 2 - i ≡ m → list_all (λ k. ltb (at ws (2 * k - 2)) (at ws (2 * k))) (range_with_len i m) ≡ rising (suc (at ws (2 * i - 2))) (drop i ps)
+  listed-rise : (i m : ℕ) → 1 ≤ i → length ws / 2 - i ≡ m → list_all (λ k. ltb (at ws (2 * k - 2)) (at ws (2 * k))) (range_with_len i m)
+      ≡ rising (suc (at ws (2 * i - 2))) (drop i ps)
   unfolding rising
   listed-rise i zero h e = sym (ap (rising (suc (at ws (2 * i - 2)))) (pair-none i (omega arith)))
   listed-rise i (suc m) h e =
@@ -60,7 +55,8 @@ module _ (ws : Words) where
 
   -- ---- a recording number among the pairs from pair i on
 
-  pub listed-recording : (r i m : ℕ) → length ws / 2 - i ≡ m → list_any (λ k. eqb (recording_of (at ws (2 * k + 1))) r) (range_with_len i m) ≡ has_recording r (drop i ps)
+  pub listed-recording : (r i m : ℕ) → length ws / 2 - i ≡ m → list_any (λ k. eqb (recording_of (at ws (2 * k + 1))) r) (range_with_len i m)
+      ≡ has_recording r (drop i ps)
   unfolding has_recording
   listed-recording r i zero e = sym (ap (has_recording r) (pair-none i (omega arith)))
   listed-recording r i (suc m) e =
@@ -79,7 +75,8 @@ module _ (ws : Words) where
   number-none i h = ap (map recording) (pair-none i h)
 
   pub listed-once : (i m : ℕ) → length ws / 2 - i ≡ m
-      → list_all (λ k. not (has_recording (recording_of (at ws (2 * k + 1))) (drop (k + 1) ps))) (range_with_len i m) ≡ distinct (numbers_of i)
+      → list_all (λ k. not (has_recording (recording_of (at ws (2 * k + 1))) (drop (k + 1) ps))) (range_with_len i m)
+      ≡ distinct (numbers_of i)
   unfolding distinct
   listed-once i zero e = sym (ap distinct (number-none i (omega arith)))
   listed-once i (suc m) e =
@@ -88,7 +85,8 @@ module _ (ws : Words) where
 
 -- ---- two words at a time
 
-pub first-pair : (ws pair after : Words) → ws ≡ pair ++ after → length pair ≡ 2 → slots_of ws ≡ slot (at pair 0) (at pair 1) ∷ slots_of after
+pub first-pair : (ws pair after : Words) → ws ≡ pair ++ after → length pair ≡ 2 → slots_of ws
+    ≡ slot (at pair 0) (at pair 1) ∷ slots_of after
 unfolding slots_of
 first-pair = first-two slots_of slot refl (λ a. refl) (λ a b ws. refl)
 
@@ -97,6 +95,7 @@ unfolding slots_of
 no-pair = no-two slots_of slot refl (λ a. refl) (λ a b ws. refl)
 
 -- the pairs of a slice come in order
-pub pairs-come : (ws : Words) (s : _) → chunks_exact_size s ≡ 2 → chunks_exact_rest s ≡ ws → YieldsList chunks_exact_steps (λ x. slot (at x.now 0) (at x.now 1)) s (slots_of ws)
+pub pairs-come : (ws : Words) (s : _) → chunks_exact_size s ≡ 2 → chunks_exact_rest s ≡ ws
+    → YieldsList chunks_exact_steps (λ x. slot (at x.now 0) (at x.now 1)) s (slots_of ws)
 unfolding slots_of
 pairs-come = twos-come slots_of slot refl (λ a. refl) (λ a b ws. refl)

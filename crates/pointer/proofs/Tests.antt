@@ -1,8 +1,5 @@
 -- The test of a pointer, a condition at a time.
-use mathlib.Core.Path.{◌≡◌, ap, sym, ◌∙◌}
-use mathlib.Core.Bool.{Bool, true, false, ◌&&◌}
-use Prim.Native.Nat.{ℕ, ◌<◌}
-use native.Mathlib.Omega.{arith}
+use Rattle.std.proofs.Common.{◌≡◌, ℕ, ◌<◌, Bool, true, false, ◌&&◌, sym, ap, ◌∙◌, arith}
 use Rattle.model.specs.Slots.{RECORDINGS, recording_of, class_of, recording_ok, class_ok, pointer_ok}
 use Rattle.list_laws.proofs.Recordings.{recording-below}
 

@@ -1,14 +1,6 @@
 -- The tests of a quick call up to the way, one by one, as the code makes them.
-use mathlib.Core.Path.{◌≡◌, refl, ap, sym, ◌∙◌}
-use mathlib.Core.Logic.{◌≢◌}
-use mathlib.Core.Bool.{Bool, true, false, cond, not}
-use mathlib.Core.List.{List, [], ◌∷◌}
-use Prim.Native.Nat.{ℕ, ◌+◌, ◌*◌, ◌/◌, ◌≤◌, ◌<◌}
-use native.Mathlib.Omega.{arith}
-use native.Mathlib.Numerals.{add-one}
-use lib.Dec.{eqb}
-use lib.ListN.{length, take, length-take}
-use borrow.Author.Tests.{ne_eqb, eq-eqb, lt-ltb, le-ltb}
+use Rattle.std.proofs.Common.{◌≡◌, ℕ, ◌+◌, ◌*◌, ◌/◌, ◌<◌, ◌≤◌, Bool, true, false, cond, not, eqb, ◌≢◌, List, [], ◌∷◌, length, take, sym}
+use Rattle.std.proofs.Common.{refl, ap, ◌∙◌, add-one, arith, length-take, le-ltb, lt-ltb, eq-eqb, ne_eqb}
 use Rattle.std.specs.Prelude.{Ok, Err, Option, Some, None, ok_or, is_some}
 use Rattle.model.specs.declared.Refusal.{Refusal}
 use Rattle.model.specs.declared.Refusal.TheVariants.{NoTable, NoCollection, NotSound}
@@ -93,7 +85,8 @@ module _ (n : ℕ) (ws t : Words) (k : ℕ) where
         pub found-number : answer_number (ok_or o NotSound) ≡ quick_list_number n ws t k
         found-number = go o walked.tests ∙ sym rest
           where
-            go : (o : Option Way) → is_some o ≡ way_ok ms (view_of n t) k → answer_number (ok_or o NotSound) ≡ cond (not (way_ok ms (view_of n t) k)) 4 0
+            go : (o : Option Way) → is_some o ≡ way_ok ms (view_of n t) k → answer_number (ok_or o NotSound)
+                ≡ cond (not (way_ok ms (view_of n t) k)) 4 0
             go None e = rw (← e)
             go (Some y) e = rw (← e)
 
@@ -125,11 +118,13 @@ module _ (words dock : ℕ) where
 
 -- ---- the key in a leaf
 
+-- some pointer is found for k exactly if some slot has key k
 pub held-key : (k : ℕ) (ss : List Slot) → is_some (held_by (first_with k ss)) ≡ has_key k ss
 unfolding first_with has_key
 held-key k [] = refl
 held-key k (s ∷ ss) = go (eqb s.key k) refl (held-key k ss)
   where
-    go : (b : Bool) → eqb s.key k ≡ b → is_some (held_by (first_with k ss)) ≡ has_key k ss → is_some (held_by (first_with k (s ∷ ss))) ≡ has_key k (s ∷ ss)
+    go : (b : Bool) → eqb s.key k ≡ b → is_some (held_by (first_with k ss)) ≡ has_key k ss
+        → is_some (held_by (first_with k (s ∷ ss))) ≡ has_key k (s ∷ ss)
     go true e ih = rw (e, first_with, has_key)
     go false e ih = rw (e, first_with, has_key) ih

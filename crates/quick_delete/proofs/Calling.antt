@@ -1,13 +1,8 @@
 -- A quick deletion from its refusals or its first store to its end.
-use mathlib.Core.Path.{◌≡◌, refl, ap, sym, ◌∙◌}
-use mathlib.Core.Bool.{Bool, true, false, cond, not, ◌&&◌}
-use mathlib.Core.Logic.{◌≢◌}
-use mathlib.Core.List.{List, ◌∷◌, ◌++◌}
+use Rattle.std.proofs.Common.{◌≡◌, ℕ, zero, suc, ◌+◌, ◌*◌, ◌≤◌, Bool, true, false, cond, not, ◌&&◌, ◌≢◌, List, ◌∷◌, ◌++◌, length, sym, refl}
+use Rattle.std.proofs.Common.{ap, ◌∙◌, arith}
 use mathlib.Core.Option as math
 use mathlib.Core.Option.{none, some}
-use Prim.Native.Nat.{ℕ, zero, suc, ◌+◌, ◌*◌, ◌≤◌}
-use native.Mathlib.Omega.{arith}
-use lib.ListN.{length}
 use Rattle.std.specs.Prelude.{Option, Some, None, Result, Ok, Err, is_some, ok_or}
 use Rattle.model.specs.declared.Refusal.{Refusal}
 use Rattle.model.specs.declared.Refusal.TheVariants.{KeyAbsent}
@@ -21,7 +16,8 @@ use Rattle.model.specs.Writes.{shift_out_at, child_before, standing, delete_sett
 use Rattle.model.specs.Refusals.{Test, test, words_for, first_number}
 use Rattle.model.specs.Marks.{cleared}
 use Rattle.model.specs.Cells.{without}
-use Rattle.model.specs.Summary.{marks_in, cells_in, cell_of, way_ok, leaf_for, key_there, frees, neighbour_ok, own_tests, quick_number, quick_stores, quick_words, quick_list_number}
+use Rattle.model.specs.Summary.{marks_in, cells_in, cell_of, way_ok, leaf_for, key_there, frees, neighbour_ok, own_tests, quick_number}
+use Rattle.model.specs.Summary.{quick_stores, quick_words, quick_list_number}
 use Rattle.model.proofs.Numbers.{passed-zero, failed-some}
 use Rattle.list_laws.proofs.Tools.{and-iff}
 use Rattle.table_laws.proofs.Header.{header-iff}
@@ -37,7 +33,8 @@ use Rattle.summary_laws.proofs.AnyWays.{Met, way-met}
 use Rattle.summary_laws.proofs.ShiftedOut.{out-other, out-before}
 use Rattle.quick.specs.Lists.{lent_tests, lent_number}
 use Rattle.quick.proofs.Beginning.{held-key}
-use Rattle.quick.proofs.Ending.{Promised, begin_tests, begin-refused, begin-passed, lent-refused, lent-passed, list-long, refusal-some, refused-for, refused-as, Begun}
+use Rattle.quick.proofs.Ending.{Promised, begin_tests, begin-refused, begin-passed, lent-refused, lent-passed, list-long, refusal-some}
+use Rattle.quick.proofs.Ending.{refused-for, refused-as, Begun}
 use Rattle.quick_delete.specs.declared.Found.{Found}
 use Rattle.quick_delete.specs.Finds.{found_number, found_for, taken_out, Freeable, Takes}
 use Rattle.quick_delete.proofs.Finding.{frees-high, Through, through}
@@ -86,7 +83,9 @@ module _ (n k : ℕ) (ws t : Words) (u : Through n ws t k) (has : key_there n t 
 
 -- the summary that it leaves
 abbrev pub forgotten : (n : ℕ) (ws t : Words) (f : Found) (p : ℕ) → Words
-forgotten n ws t f p = cond f.frees (cleared (marks_in (nodes t) ws) f.leaf) (marks_in (nodes t) ws) ++ without (cells_in (nodes t) ws) (cell_of n (recording_of p))
+forgotten n ws t f p =
+    cond f.frees (cleared (marks_in (nodes t) ws) f.leaf) (marks_in (nodes t) ws)
+    ++ without (cells_in (nodes t) ws) (cell_of n (recording_of p))
 
 pub record Ready (n k dock : ℕ) (t lent ws : Words) (f : Found) (p : ℕ) : Type 0 where
   pub accepted : quick_number (deletion n k) (length lent) dock ws t ≡ 0
@@ -102,7 +101,8 @@ module _ {n k dock : ℕ} {t lent ws : Words} {f : Found} {p : ℕ} (r : Ready n
   nodes-fit = let s = ((header-iff t).0 r.through.header).size in (s.some, s.few)
 
   pub collection-fits : (1 ≤ n) × (n ≤ 2)
-  collection-fits = by-number t (λ (m : ℕ). (1 ≤ m) × (m ≤ 2)) (omega arith, omega arith) (λ z. (omega arith, omega arith)) n r.through.collection
+  collection-fits = by-number t (λ (m : ℕ). (1 ≤ m) × (m ≤ 2)) (omega arith, omega arith)
+      (λ z. (omega arith, omega arith)) n r.through.collection
 
   pub begun : {q : Pen} → q ≡ first_pen dock → Begun (deletion n k) dock ws (desk t lent q)
   begun e = record { accepted = r.accepted; long = r.long; first = e }
@@ -126,14 +126,16 @@ module _ (n k dock : ℕ) (t lent ws : Words) where
       go true e = rw (e, quick_number)
       go false e = rw (e, quick_number)
 
-  after : quick_list_number n ws t k ≡ 0 → quick_number (deletion n k) (length lent) dock ws t ≡ cond (not (neighbour_ok n t k)) 4 (first_number (lent_tests (length lent) dock ++ own))
+  after : quick_list_number n ws t k ≡ 0 → quick_number (deletion n k) (length lent) dock ws t
+      ≡ cond (not (neighbour_ok n t k)) 4 (first_number (lent_tests (length lent) dock ++ own))
   after e = parts ∙ begin-passed n ws t k rest e
 
   found-refuses : found_number n ws t k ≢ 0 → quick_number (deletion n k) (length lent) dock ws t ≡ found_number n ws t k
   unfolding found_number
   found-refuses z = go (quick_list_number n ws t k) (neighbour_ok n t k) refl refl
     where
-      go : (q : ℕ) (b : Bool) → quick_list_number n ws t k ≡ q → neighbour_ok n t k ≡ b → quick_number (deletion n k) (length lent) dock ws t ≡ found_number n ws t k
+      go : (q : ℕ) (b : Bool) → quick_list_number n ws t k ≡ q → neighbour_ok n t k ≡ b
+          → quick_number (deletion n k) (length lent) dock ws t ≡ found_number n ws t k
       go zero true e f = absurd (z (rw (e, f, found_number)))
       go zero false e f = after e ∙ rw (e, f, found_number)
       go (suc q) b e f = parts ∙ begin-refused n ws t k rest (λ y. omega (arith, e, y)) ∙ e ∙ sym (rw (e, found_number))
@@ -147,7 +149,8 @@ module _ (n k dock : ℕ) (t lent ws : Words) where
     unfolding found_number
     both = go (quick_list_number n ws t k) (neighbour_ok n t k) refl refl
       where
-        go : (q : ℕ) (b : Bool) → quick_list_number n ws t k ≡ q → neighbour_ok n t k ≡ b → (quick_list_number n ws t k ≡ 0) × (neighbour_ok n t k ≡ true)
+        go : (q : ℕ) (b : Bool) → quick_list_number n ws t k ≡ q → neighbour_ok n t k ≡ b → (quick_list_number n ws t k ≡ 0)
+            × (neighbour_ok n t k ≡ true)
         go zero true e f = (e, f)
         go zero false e f = let u : ◌≡◌ {A = ℕ} 0 4 = rw (e, f, found_number) at z in absurd (omega arith)
         go (suc q) b e f = let u : 0 ≡ suc q = rw (e, found_number) at z in absurd (omega arith)
@@ -158,9 +161,11 @@ module _ (n k dock : ℕ) (t lent ws : Words) where
     later : quick_number (deletion n k) (length lent) dock ws t ≡ first_number (lent_tests (length lent) dock ++ own)
     later = after both.0 ∙ rw both.1
 
-    pub lent-refuses : {e : Refusal} → passed (lent_number (length lent) dock) ≡ Err e → Promised (deletion n k) t lent ws dock (Err e) t lent ws
+    pub lent-refuses : {e : Refusal} → passed (lent_number (length lent) dock) ≡ Err e
+        → Promised (deletion n k) t lent ws dock (Err e) t lent ws
     lent-refuses f =
-        refused-as (deletion n k) t lent ws dock (lent_number (length lent) dock) f (later ∙ lent-refused (length lent) dock own (failed-some (lent_number (length lent) dock) f))
+        refused-as (deletion n k) t lent ws dock (lent_number (length lent) dock) f
+        (later ∙ lent-refused (length lent) dock own (failed-some (lent_number (length lent) dock) f))
 
     -- and so did the list: by what was found
     module _ (l : passed (lent_number (length lent) dock) ≡ Ok tt) {f : Found} (ef : f ≡ found_for n t k) where
@@ -168,12 +173,15 @@ module _ (n k dock : ℕ) (t lent ws : Words) where
       unfolding found_for
       number =
           later ∙ lent-passed (length lent) dock own (passed-zero _ l)
-          ∙ ap (λ (b : Bool). cond (not b) 9 0) (sym (ap (λ (g : Found). is_some g.pointer) ef ∙ held-key k (node_view t (leaf_for n t k)).shown))
+          ∙ ap (λ (b : Bool). cond (not b) 9 0)
+          (sym (ap (λ (g : Found). is_some g.pointer) ef ∙ held-key k (node_view t (leaf_for n t k)).shown))
 
-      pub key-refuses : {e : Refusal} → ◌≡◌ {A = Result ℕ Refusal} (Err e) (ok_or f.pointer KeyAbsent) → Promised (deletion n k) t lent ws dock (Err e) t lent ws
+      pub key-refuses : {e : Refusal} → ◌≡◌ {A = Result ℕ Refusal} (Err e) (ok_or f.pointer KeyAbsent)
+          → Promised (deletion n k) t lent ws dock (Err e) t lent ws
       key-refuses {e} q = go f.pointer refl q
         where
-          go : (o : Option ℕ) → f.pointer ≡ o → ◌≡◌ {A = Result ℕ Refusal} (Err e) (ok_or o KeyAbsent) → Promised (deletion n k) t lent ws dock (Err e) t lent ws
+          go : (o : Option ℕ) → f.pointer ≡ o → ◌≡◌ {A = Result ℕ Refusal} (Err e) (ok_or o KeyAbsent)
+              → Promised (deletion n k) t lent ws dock (Err e) t lent ws
           go None y q = let same : KeyAbsent ≡ e = cc in rw (← same) (refused-for (deletion n k) t lent ws dock KeyAbsent (number ∙ rw y))
           go (Some p) y q = cc
 
@@ -199,9 +207,11 @@ module _ (n k dock : ℕ) (t lent ws : Words) where
             it = ap (λ (g : Found). g.pointer) (sym ef) ∙ ep
 
             go : (o : math.Option Slot) → first_with k (node_view t (leaf_for n t k)).shown ≡ o
-                → cond (frees n t k) (cleared (marks_in (nodes t) ws) (leaf_for n t k)) (marks_in (nodes t) ws) ++ without (cells_in (nodes t) ws) (cell_of n (recording_of p)) ≡ quick_words (deletion n k) ws t
+                → cond (frees n t k) (cleared (marks_in (nodes t) ws) (leaf_for n t k)) (marks_in (nodes t) ws)
+                ++ without (cells_in (nodes t) ws) (cell_of n (recording_of p)) ≡ quick_words (deletion n k) ws t
             go none q = let z : ◌≡◌ {A = Option ℕ} None (Some p) = sym (ap held_by q) ∙ it in cc
-            go (some s) q = let z : ◌≡◌ {A = Option ℕ} (Some s.pointer) (Some p) = sym (ap held_by q) ∙ it in let y : s.pointer ≡ p = cc in rw (q, y)
+            go (some s) q = let z : ◌≡◌ {A = Option ℕ} (Some s.pointer) (Some p) = sym (ap held_by q) ∙ it in let y :
+                s.pointer ≡ p = cc in rw (q, y)
 
         pub ready : Ready n k dock t lent ws f p
         unfolding found_for

@@ -1,12 +1,5 @@
 -- The stores of a quick deletion, one part after the other, and the tests of the leaf before a freed one.
-use mathlib.Core.Path.{◌≡◌, ap, sym, ◌∙◌}
-use mathlib.Core.Bool.{Bool, true, false}
-use mathlib.Core.List.{List, append-nil}
-use Prim.Native.Nat.{ℕ, ◌≤◌, ◌<◌}
-use native.Mathlib.Omega.{arith}
-use lib.Dec.{ltb}
-use lib.ListN.{length, take}
-use borrow.Author.Tests.{lt-ltb, le-ltb}
+use Rattle.std.proofs.Common.{◌≡◌, ℕ, ◌<◌, ◌≤◌, Bool, true, false, ltb, List, length, take, sym, ap, ◌∙◌, append-nil, arith, le-ltb, lt-ltb}
 use Rattle.model.specs.declared.Node.{Node}
 use Rattle.model.specs.Table.{Words, nodes, in_range, node}
 use Rattle.model.specs.Slots.{Slot, node_view, view}
@@ -28,12 +21,14 @@ use Rattle.quick_delete.specs.Finds.{neighbour_there, taken_out, Freeable, Takes
 
 -- ---- the leaf before, by what was read: y is node p
 
-module _ (t : Words) (p x : ℕ) (y : Node) (q : y ≡ node t p) (z : (node_view t p).hidden ≡ 0) (f at : ℕ) (ef : f ≡ word_of t x 3) (ea : at ≡ place_of f (in_use_of y.slots)) where
+module _ (t : Words) (p x : ℕ) (y : Node) (q : y ≡ node t p) (z : (node_view t p).hidden ≡ 0) (f at : ℕ) (ef : f ≡ word_of t x 3)
+    (ea : at ≡ place_of f (in_use_of y.slots)) where
   slots-are : (node_view t p).shown ≡ in_use_of y.slots
   slots-are = shown-read t p y q z
 
   place-is : place_of (node_view t x).fence (node_view t p).shown ≡ at
-  place-is = ap (λ (ss : List Slot). place_of (node_view t x).fence ss) slots-are ∙ ap (λ (n : ℕ). place_of n (in_use_of y.slots)) (sym (ef ∙ word-fence t x)) ∙ sym ea
+  place-is = ap (λ (ss : List Slot). place_of (node_view t x).fence ss) slots-are
+      ∙ ap (λ (n : ℕ). place_of n (in_use_of y.slots)) (sym (ef ∙ word-fence t x)) ∙ sym ea
 
   pub at-in : at ≤ length (in_use_of y.slots)
   at-in = omega (arith, ea, place-length f (in_use_of y.slots))
@@ -47,7 +42,8 @@ module _ (t : Words) (p x : ℕ) (y : Node) (q : y ≡ node t p) (z : (node_view
     unfolding neighbour_there
     slot-missing h = rw (place-is, slots-are, ← en, le-ltb at n h)
 
-    pub slot-there : at < n → (b : ℕ) (r : Bool) → b ≡ last_pointer y.left (take at (in_use_of y.slots)) → r ≡ in_range (nodes t) b → r ≡ neighbour_there t p x
+    pub slot-there : at < n → (b : ℕ) (r : Bool) → b ≡ last_pointer y.left (take at (in_use_of y.slots)) → r ≡ in_range (nodes t) b
+        → r ≡ neighbour_there t p x
     unfolding neighbour_there
     slot-there h b r eb er = er ∙ rw (place-is, slots-are, ← en, lt-ltb at n h, eb, before-is)
 

@@ -1,11 +1,7 @@
 -- What a quick deletion finds: its tests in the order of the code.
-use mathlib.Core.Path.{◌≡◌, refl, ap, sym, ◌∙◌}
-use mathlib.Core.Bool.{Bool, true, false, cond, ◌&&◌, and-false}
-use mathlib.Core.Logic.{◌≢◌}
-use Prim.Native.Nat.{ℕ, zero, suc, ◌-◌, ◌≤◌}
-use native.Mathlib.Omega.{arith}
-use lib.ListN.{length, get_or}
-use borrow.Author.Tests.{eqb-true, ltb-true}
+use Rattle.std.proofs.Common.{◌≡◌, ℕ, zero, suc, ◌-◌, ◌≤◌, Bool, true, false, cond, ◌&&◌, ◌≢◌, length, get_or, sym, refl, ap, ◌∙◌, arith}
+use Rattle.std.proofs.Common.{ltb-true, eqb-true}
+use mathlib.Core.Bool.{and-false}
 use Rattle.std.specs.Prelude.{Option, is_some}
 use Rattle.model.specs.declared.Refusal.{Refusal}
 use Rattle.model.specs.Numbers.{refusal_number}
@@ -47,8 +43,14 @@ pub record Through (n : ℕ) (ws t : Words) (k : ℕ) : Type 0 where
 pub through : (n : ℕ) (ws t : Words) (k : ℕ) → quick_list_number n ws t k ≡ 0 → Through n ws t k
 unfolding quick_list_number
 through n ws t k z =
-    let u = (none-holds (begin_tests n ws t k) ((λ e. omega arith), ((λ e. omega arith), ((λ e. omega arith), ((λ e. omega arith), tt))))).0 z in
-    record { header = (not-false-iff _).0 u.0; collection = u.1.0; long = eqb-true _ _ ((not-false-iff _).0 u.1.1.0); way = (not-false-iff _).0 u.1.1.1.0 }
+    let u = (none-holds (begin_tests n ws t k) ((λ e. omega arith), ((λ e. omega arith), ((λ e. omega arith), ((λ e. omega arith), tt))))).0
+    z in
+    record {
+      header = (not-false-iff _).0 u.0;
+      collection = u.1.0;
+      long = eqb-true _ _ ((not-false-iff _).0 u.1.1.0);
+      way = (not-false-iff _).0 u.1.1.1.0;
+    }
 
 -- the leaf and its parent, whether it is freed and what it has for k, on a way that passed its tests
 pub record Seen (n : ℕ) (ws t : Words) (k x p : ℕ) (b : Bool) (h : Option ℕ) : Type 0 where
@@ -59,8 +61,10 @@ pub record Seen (n : ℕ) (ws t : Words) (k x p : ℕ) (b : Bool) (h : Option �
   pub held : h ≡ held_by (first_with k (node_view t x).shown)
 
 -- as the code reads them, by the root r
-pub seen : {n : ℕ} {ws t : Words} {k : ℕ} {w : Way} {r x p : ℕ} {b : Bool} {h : Option ℕ} → 0 ≡ quick_list_number n ws t k → Along n (marks_in (nodes t) ws) t k w
-    → r ≡ at t (root_word n) → x ≡ get_or w.nodes (w.height - 0) 0 → p ≡ get_or w.nodes (w.height - 1) 0 → ((m : ℕ) → r ≡ at t (root_word m) → b ≡ frees_leaf m t p x)
+pub seen : {n : ℕ} {ws t : Words} {k : ℕ} {w : Way} {r x p : ℕ} {b : Bool} {h : Option ℕ} → 0 ≡ quick_list_number n ws t k
+    → Along n (marks_in (nodes t) ws) t k w
+    → r ≡ at t (root_word n) → x ≡ get_or w.nodes (w.height - 0) 0 → p ≡ get_or w.nodes (w.height - 1) 0
+    → ((m : ℕ) → r ≡ at t (root_word m) → b ≡ frees_leaf m t p x)
     → h ≡ held_by (first_with k (node_view t x).shown) → Seen n ws t k x p b h
 seen z a er ex ep eb eh =
     let leaf = along-on a 0 _ ex in
@@ -68,7 +72,8 @@ seen z a er ex ep eb eh =
     record { number = z; leaf = leaf; parent = parent; freed = rw (← leaf, ← parent) (eb _ er); held = eh }
 
 -- 2, 17, 26, and 4 by the way
-pub way-refused : (n : ℕ) (ws t : Words) (k : ℕ) (r : Refusal) → refusal_number r ≡ quick_list_number n ws t k → refusal_number r ≡ found_number n ws t k
+pub way-refused : (n : ℕ) (ws t : Words) (k : ℕ) (r : Refusal) → refusal_number r ≡ quick_list_number n ws t k
+    → refusal_number r ≡ found_number n ws t k
 unfolding found_number
 way-refused n ws t k r e = e ∙ sym (kept (quick_list_number n ws t k) (cond (neighbour_ok n t k) 0 4) (λ z. refusal-some r (e ∙ z)))
 
@@ -79,7 +84,8 @@ module _ {n : ℕ} {ws t : Words} {k x p : ℕ} {b : Bool} {h : Option ℕ} (s :
 
   -- the parent of a leaf to be freed hides nothing
   pub parent-plain : b ≡ true → (node_view t p).hidden ≡ 0
-  parent-plain e = rw s.parent (way-met n (marks_in (nodes t) ws) t k (through n ws t k (sym s.number)).way 1 (frees-high n t k (sym s.freed ∙ e))).plain
+  parent-plain e = rw s.parent
+      (way-met n (marks_in (nodes t) ws) t k (through n ws t k (sym s.number)).way 1 (frees-high n t k (sym s.freed ∙ e))).plain
 
   -- ---- 4 by the leaf before it
 
@@ -92,7 +98,8 @@ module _ {n : ℕ} {ws t : Words} {k x p : ℕ} {b : Bool} {h : Option ℕ} (s :
 
   neighbour-is : is_some h ≡ true → b ≡ true → neighbour_ok n t k ≡ neighbour_there t p x
   unfolding neighbour_ok neighbour_there child_before
-  neighbour-is e f = let both : (key_there n t k && frees n t k) ≡ true = (and-iff _ _).1 (sym there ∙ e, sym s.freed ∙ f) in rw (both, s.parent, s.leaf)
+  neighbour-is e f = let both : (key_there n t k && frees n t k) ≡ true =
+      (and-iff _ _).1 (sym there ∙ e, sym s.freed ∙ f) in rw (both, s.parent, s.leaf)
 
   pub neighbour-refuses : is_some h ≡ true → b ≡ true → neighbour_there t p x ≡ false → 4 ≡ found_number n ws t k
   neighbour-refuses e f g = sym (number-is ∙ rw (neighbour-is e f ∙ g))

@@ -1,12 +1,6 @@
 -- The stores of a quick insertion along a way: a new root, the splits of the run, the slot shifted in.
-use mathlib.Core.Path.{◌≡◌, refl, ap, sym, ◌∙◌}
-use mathlib.Core.Bool.{Bool, true, false, cond, ◌&&◌}
-use mathlib.Core.List.{List, [], ◌∷◌, ◌++◌, append-nil}
-use Prim.Native.Nat.{ℕ, suc, ◌+◌, ◌*◌, ◌-◌, ◌≤◌, ◌<◌}
-use native.Mathlib.Omega.{arith}
-use lib.Dec.{eqb, ltb}
-use lib.ListN.{length, get_or, take, drop}
-use borrow.Author.Tests.{eqb-true}
+use Rattle.std.proofs.Common.{◌≡◌, ℕ, suc, ◌+◌, ◌-◌, ◌*◌, ◌<◌, ◌≤◌, Bool, true, false, cond, ◌&&◌, eqb, ltb, List, [], ◌∷◌, ◌++◌, length}
+use Rattle.std.proofs.Common.{get_or, take, drop, sym, refl, ap, ◌∙◌, append-nil, arith, eqb-true}
 use Rattle.std.proofs.lemmas.List.{drop-take}
 use Rattle.model.specs.Table.{MARK, Words, at, nodes, in_range, root_word, has_node}
 use Rattle.model.specs.Slots.{node_view, view_of, height}
@@ -53,8 +47,15 @@ module _ {n : ℕ} {ms t : Words} {k : ℕ} {w : Way} (a : Along n ms t k w) whe
     pub marks : ms' ≡ (start_way n ms t k).marks
     pub under : u ≡ (start_way n ms t k).under
 
-  starts : (g : Going) → start_way n ms t k ≡ g → {f v : Writer} {ms' : Words} {u : ℕ} → Makes g.stores f v → ms' ≡ g.marks → u ≡ g.under → Starts f v ms' u
-  starts g e {f} {v} q m d = record { stores = stored-as (ap (λ (g : Going). g.stores) e) q; marks = m ∙ sym (ap (λ (g : Going). g.marks) e); under = d ∙ sym (ap (λ (g : Going). g.under) e) }
+  starts : (g : Going) → start_way n ms t k ≡ g → {f v : Writer} {ms' : Words} {u : ℕ} → Makes g.stores f v → ms' ≡ g.marks → u
+      ≡ g.under → Starts f v ms' u
+  starts g e {f} {v} q m d =
+      record {
+        stores = stored-as (ap (λ (g : Going). g.stores) e) q;
+        marks = m ∙ sym (ap (λ (g : Going). g.marks) e);
+        under = d
+            ∙ sym (ap (λ (g : Going). g.under) e);
+      }
 
   module _ {above : ℕ} (ea : above ≡ get_or w.nodes (w.height - w.run) 0) where
     above-is : above ≡ standing n t (run n t k) k
@@ -72,7 +73,8 @@ module _ {n : ℕ} {ms t : Words} {k : ℕ} {w : Way} (a : Along n ms t k w) whe
 
       pub start-lost : in_range (nodes t) r ≡ false → {v : Writer} → Starts v v ms above
       unfolding start_way
-      start-lost e = starts (going [] t ms (standing n t (run n t k) k)) (rw (sym (whole-is a) ∙ whole, rw fresh-is at e, start_way)) stored-none refl above-is
+      start-lost e = starts (going [] t ms (standing n t (run n t k) k)) (rw (sym (whole-is a) ∙ whole, rw fresh-is at e, start_way))
+          stored-none refl above-is
 
       module _ (there : in_range (nodes t) r ≡ true) where
         start-root : start_way n ms t k ≡ going (new_root_at (root_word n) t r) (apply (new_root_at (root_word n) t r) t) (put ms r) r
@@ -88,7 +90,8 @@ module _ {n : ℕ} {ms t : Words} {k : ℕ} {w : Way} (a : Along n ms t k w) whe
 -- ---- the parts of the whole
 
 -- the table of a way is what its stores make
-way-table : (N k : ℕ) (rest : List ℕ) (t₀ : Words) (g : Going) → g.table ≡ apply g.stores t₀ → (split_way N k rest g).table ≡ apply (split_way N k rest g).stores t₀
+way-table : (N k : ℕ) (rest : List ℕ) (t₀ : Words) (g : Going) → g.table ≡ apply g.stores t₀ → (split_way N k rest g).table
+    ≡ apply (split_way N k rest g).stores t₀
 unfolding split_way
 way-table N k [] t₀ g e = e
 way-table N k (a ∷ rest) t₀ g e = go (can_split N g.table a (free_after N g.marks a) g.under) refl (way-table N k rest t₀)
@@ -99,9 +102,12 @@ way-table N k (a ∷ rest) t₀ g e = go (can_split N g.table a (free_after N g.
     ss : List Store
     ss = split g.table a (free_after N g.marks a) g.under
 
-    go : (c : Bool) → can_split N g.table a (free_after N g.marks a) g.under ≡ c → ((g : Going) → g.table ≡ apply g.stores t₀ → (split_way N k rest g).table ≡ apply (split_way N k rest g).stores t₀)
+    go : (c : Bool) → can_split N g.table a (free_after N g.marks a) g.under ≡ c
+        → ((g : Going) → g.table ≡ apply g.stores t₀ → (split_way N k rest g).table ≡ apply (split_way N k rest g).stores t₀)
         → (split_way N k (a ∷ rest) g).table ≡ apply (split_way N k (a ∷ rest) g).stores t₀
-    go true q ih = rw (q, split_way) (ih (going (g.stores ++ ss) (apply ss g.table) (put g.marks b) (cond (ltb k (middle g.table a).key) a b)) (ap (apply ss) e ∙ sym (apply-append g.stores ss t₀)))
+    go true q ih = rw (q, split_way)
+        (ih (going (g.stores ++ ss) (apply ss g.table) (put g.marks b) (cond (ltb k (middle g.table a).key) a b))
+        (ap (apply ss) e ∙ sym (apply-append g.stores ss t₀)))
     go false q ih = rw (q, split_way) e
 
 module _ (n : ℕ) (ms t : Words) (k : ℕ) where
@@ -112,7 +118,8 @@ module _ (n : ℕ) (ms t : Words) (k : ℕ) where
       r : ℕ
       r = free_after (nodes t) ms (at t (root_word n))
 
-      go : (b : Bool) → let ss = new_root_at (root_word n) t r in let g = cond b (going ss (apply ss t) (put ms r) r) (going [] t ms (standing n t (run n t k) k)) in g.table ≡ apply g.stores t
+      go : (b : Bool) → let ss = new_root_at (root_word n) t r in let g =
+          cond b (going ss (apply ss t) (put ms r) r) (going [] t ms (standing n t (run n t k) k)) in g.table ≡ apply g.stores t
       go true = refl
       go false = refl
 
@@ -124,7 +131,8 @@ module _ (n : ℕ) (ms t : Words) (k : ℕ) where
   unfolding way_made
   made-parts =
       let s = start_way n ms t k in
-      ap (λ (zs : List Store). split_way (nodes t) k (run_of n t k) (going zs s.table s.marks s.under)) (sym (append-nil s.stores)) ∙ way-pre (nodes t) k (run_of n t k) s.stores [] s.table s.marks s.under
+      ap (λ (zs : List Store). split_way (nodes t) k (run_of n t k) (going zs s.table s.marks s.under)) (sym (append-nil s.stores))
+      ∙ way-pre (nodes t) k (run_of n t k) s.stores [] s.table s.marks s.under
 
   made-table : (way_made n ms t k).table ≡ apply (way_made n ms t k).stores t
   unfolding way_made
@@ -140,8 +148,10 @@ module _ (n : ℕ) (ms t : Words) (k : ℕ) where
 
 -- ---- the writer
 
-module _ {n : ℕ} {ms : Words} {k : ℕ} (x : ℕ) {w : Way} (f : Writer) (a : Along n ms f.table.now k w) (room : Room (quick_insert n ms f.table.now k x) (of f)) where
-  whole-room : Room ((way_made n ms f.table.now k).stores ++ last n ms f.table.now k x (apply (way_made n ms f.table.now k).stores f.table.now)) (of f)
+module _ {n : ℕ} {ms : Words} {k : ℕ} (x : ℕ) {w : Way} (f : Writer) (a : Along n ms f.table.now k w)
+    (room : Room (quick_insert n ms f.table.now k x) (of f)) where
+  whole-room : Room ((way_made n ms f.table.now k).stores
+      ++ last n ms f.table.now k x (apply (way_made n ms f.table.now k).stores f.table.now)) (of f)
   whole-room = room-as _ _ (of f) (quick-parts n ms f.table.now k x) room
 
   parts-room : Room ((start_way n ms f.table.now k).stores ++ (later n ms f.table.now k).stores) (of f)
@@ -162,14 +172,16 @@ module _ {n : ℕ} {ms : Words} {k : ℕ} (x : ℕ) {w : Way} (f : Writer) (a : 
       sym (drop-take i m w.nodes) ∙ ap (λ (l : ℕ). drop i (take l w.nodes)) all ∙ ap (drop i) (along-path a) ∙ ap (λ (j : ℕ). drop j ps) d
 
   -- the new root is made
-  module _ {v : Writer} {ms₁ : Words} {u : ℕ} (q : Makes (start_way n ms f.table.now k).stores f v) (em : ms₁ ≡ (start_way n ms f.table.now k).marks) (eu : u ≡ (start_way n ms f.table.now k).under)
+  module _ {v : Writer} {ms₁ : Words} {u : ℕ} (q : Makes (start_way n ms f.table.now k).stores f v)
+      (em : ms₁ ≡ (start_way n ms f.table.now k).marks) (eu : u ≡ (start_way n ms f.table.now k).under)
       {ns : List ℕ} (en : ns ≡ run_of n f.table.now k) where
     pub grown-size : length v.table.now ≡ 8 + 32 * nodes f.table.now
     grown-size = (makes-size _ q).0 ∙ (along-size a).long
 
     later-is : split_way (nodes f.table.now) k ns (going [] v.table.now ms₁ u) ≡ later n ms f.table.now k
     later-is =
-        let et : v.table.now ≡ (start_way n ms f.table.now k).table = part-table (start_way n ms f.table.now k).stores (λ (y : Words). []) q ∙ sym (start-table n ms f.table.now k) in
+        let et : v.table.now ≡ (start_way n ms f.table.now k).table =
+        part-table (start_way n ms f.table.now k).stores (λ (y : Words). []) q ∙ sym (start-table n ms f.table.now k) in
         rw (et, em, eu, en) refl
 
     pub run-room : Room (split_way (nodes f.table.now) k ns (going [] v.table.now ms₁ u)).stores (of v)
@@ -177,9 +189,11 @@ module _ {n : ℕ} {ms : Words} {k : ℕ} (x : ℕ) {w : Way} (f : Writer) (a : 
 
     -- and the splits
     module _ {z : Writer} {ms₂ : Words} {p : ℕ} (h : Makes (split_way (nodes f.table.now) k ns (going [] v.table.now ms₁ u)).stores v z)
-        (em₂ : ms₂ ≡ (split_way (nodes f.table.now) k ns (going [] v.table.now ms₁ u)).marks) (ep : p ≡ (split_way (nodes f.table.now) k ns (going [] v.table.now ms₁ u)).under) where
+        (em₂ : ms₂ ≡ (split_way (nodes f.table.now) k ns (going [] v.table.now ms₁ u)).marks)
+        (ep : p ≡ (split_way (nodes f.table.now) k ns (going [] v.table.now ms₁ u)).under) where
       made : Makes (way_made n ms f.table.now k).stores f z
-      made = stored-as (ap (λ (g : Going). g.stores) (made-parts n ms f.table.now k)) (then-stored _ _ q (stored-as (ap (λ (g : Going). g.stores) (sym later-is)) h))
+      made = stored-as (ap (λ (g : Going). g.stores) (made-parts n ms f.table.now k))
+          (then-stored _ _ q (stored-as (ap (λ (g : Going). g.stores) (sym later-is)) h))
 
       pub made-marks : ms₂ ≡ (way_made n ms f.table.now k).marks
       made-marks = em₂ ∙ ap (λ (g : Going). g.marks) later-is ∙ sym (ap (λ (g : Going). g.marks) (made-parts n ms f.table.now k))
@@ -190,24 +204,30 @@ module _ {n : ℕ} {ms : Words} {k : ℕ} (x : ℕ) {w : Way} (f : Writer) (a : 
       made-size : length z.table.now ≡ 8 + 32 * nodes f.table.now
       made-size = (makes-size _ made).0 ∙ (along-size a).long
 
-      last-is : (b : Bool) → roomy (nodes f.table.now) z.table.now p ≡ b → last n ms f.table.now k x z.table.now ≡ cond b (shift_in_at z.table.now p k x) []
+      last-is : (b : Bool) → roomy (nodes f.table.now) z.table.now p ≡ b → last n ms f.table.now k x z.table.now
+          ≡ cond b (shift_in_at z.table.now p k x) []
       last-is b e = rw (← taker-is, e)
 
       -- the last store
       module _ (ok : roomy (nodes f.table.now) z.table.now p ≡ true) where
         pub taker-there : has_node z.table.now p ≡ true
         unfolding roomy
-        taker-there = let r = (range-iff (nodes f.table.now) p).0 ((and-iff (in_range (nodes f.table.now) p) _).0 ok).0 in (has-node-iff z.table.now p).1 (r.0, omega (arith, r.0, r.1, made-size))
+        taker-there = let r =
+            (range-iff (nodes f.table.now) p).0 ((and-iff (in_range (nodes f.table.now) p) _).0 ok).0 in (has-node-iff z.table.now p).1
+            (r.0, omega (arith, r.0, r.1, made-size))
 
         pub taker-plain : (node_view z.table.now p).hidden ≡ 0
         unfolding roomy
         taker-plain = let u = simp and-iff at ok in eqb-true _ _ u.1.0
 
         pub last-room : Room (shift_in_at z.table.now p k x) (of z)
-        last-room = room-as _ _ (of z) (last-is true ok) (part-room (way_made n ms f.table.now k).stores (last n ms f.table.now k x) made whole-room)
+        last-room = room-as _ _ (of z) (last-is true ok)
+            (part-room (way_made n ms f.table.now k).stores (last n ms f.table.now k x) made whole-room)
 
         pub all-made : {y : Writer} → Makes (shift_in_at z.table.now p k x) z y → Makes (quick_insert n ms f.table.now k x) f y
-        all-made g = stored-as (quick-parts n ms f.table.now k x) (part-stored (way_made n ms f.table.now k).stores (last n ms f.table.now k x) made (stored-as (last-is true ok) g))
+        all-made g = stored-as (quick-parts n ms f.table.now k x)
+            (part-stored (way_made n ms f.table.now k).stores (last n ms f.table.now k x) made (stored-as (last-is true ok) g))
 
       pub none-made : roomy (nodes f.table.now) z.table.now p ≡ false → Makes (quick_insert n ms f.table.now k x) f z
-      none-made e = stored-as (quick-parts n ms f.table.now k x) (part-stored (way_made n ms f.table.now k).stores (last n ms f.table.now k x) made (stored-as (last-is false e) stored-none))
+      none-made e = stored-as (quick-parts n ms f.table.now k x)
+          (part-stored (way_made n ms f.table.now k).stores (last n ms f.table.now k x) made (stored-as (last-is false e) stored-none))

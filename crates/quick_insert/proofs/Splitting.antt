@@ -1,14 +1,7 @@
 -- The splits of a run on any table: each test by what the code counts, and the run in the rest form.
-use mathlib.Core.Path.{◌≡◌, refl, ap, sym, ◌∙◌, subst}
-use mathlib.Core.Bool.{Bool, true, false, cond, ◌&&◌}
-use mathlib.Core.List.{List, [], ◌∷◌, ◌++◌, append_assoc, append-nil}
-use Prim.Native.Nat.{ℕ, ◌+◌, ◌*◌, ◌≤◌, ◌<◌}
-use native.Mathlib.Omega.{arith}
-use lib.Dec.{eqb, leb, ltb}
-use lib.ListN.{length, get_or, drop, drop_of_length-le}
-use lib.Seq.{drop-cons}
-use native.Mathlib.Numerals.{add-one}
-use borrow.Author.Tests.{eqb-true}
+use Rattle.std.proofs.Common.{◌≡◌, ℕ, ◌+◌, ◌*◌, ◌<◌, ◌≤◌, Bool, true, false, cond, ◌&&◌, eqb, ltb, leb, List, [], ◌∷◌, ◌++◌, length, get_or}
+use Rattle.std.proofs.Common.{drop, sym, refl, ap, ◌∙◌, subst, append_assoc, append-nil, add-one, arith, drop_of_length-le, drop-cons}
+use Rattle.std.proofs.Common.{eqb-true}
 use Rattle.model.specs.Table.{Words, in_range, has_node, node}
 use Rattle.model.specs.Slots.{Slot, slot, node_view, full}
 use Rattle.model.specs.Orders.{Store, apply}
@@ -52,11 +45,13 @@ module _ (N : ℕ) (t : Words) (a : ℕ) where
         go true z = rw (r, z)
         go false z = rw (r, z)
 
-    pub roomy-by : (o : Option ℕ) (b : Bool) (P : ℕ → Type 0) → ((x : ℕ) → P x → b ≡ leb x 10) → o ≡ plain_count (node_view t a) → MatchOption o (b ≡ false) P → b ≡ roomy N t a
+    pub roomy-by : (o : Option ℕ) (b : Bool) (P : ℕ → Type 0) → ((x : ℕ) → P x → b ≡ leb x 10) → o ≡ plain_count (node_view t a)
+        → MatchOption o (b ≡ false) P → b ≡ roomy N t a
     unfolding roomy plain_count
     roomy-by o b P h e q = go (eqb (node_view t a).hidden 0) refl o e q
       where
-        go : (d : Bool) → eqb (node_view t a).hidden 0 ≡ d → (o : Option ℕ) → o ≡ cond d (Some (length (node_view t a).shown)) None → MatchOption o (b ≡ false) P
+        go : (d : Bool) → eqb (node_view t a).hidden 0 ≡ d → (o : Option ℕ) → o ≡ cond d (Some (length (node_view t a).shown)) None
+            → MatchOption o (b ≡ false) P
             → b ≡ (in_range N a && (eqb (node_view t a).hidden 0 && leb (length (node_view t a).shown) 10))
         go true z (Some n) w q = let u : n ≡ length (node_view t a).shown = cc in rw (r, z) (h n q ∙ ap (λ (m : ℕ). leb m 10) u)
         go true z None w q = cc
@@ -99,7 +94,8 @@ unfolding full_node
 full-range N t a e = (range-iff N a).0 ((and-iff (in_range N a) _).0 e).0
 
 pub upper-range : (N : ℕ) (t : Words) (a b p : ℕ) → can_split N t a b p ≡ true → b ≤ N
-upper-range N t a b p e = ((range-iff N b).0 ((and-iff (in_range N b) (roomy N t p)).0 ((and-iff (full_node N t a) (in_range N b && roomy N t p)).0 e).1).0).1
+upper-range N t a b p e =
+    ((range-iff N b).0 ((and-iff (in_range N b) (roomy N t p)).0 ((and-iff (full_node N t a) (in_range N b && roomy N t p)).0 e).1).0).1
 
 -- the key that B begins with, as the code reads it
 pub middle-word : (t : Words) (a b p : ℕ) → Splits t a b p → word_of t a 18 ≡ (middle t a).key
@@ -107,7 +103,8 @@ middle-word t a b p s =
     let x = node t a in
     let all = shown-read t a x refl s.plain in
     let six : 5 < length (in_use_of x.slots) = omega (arith, s.enough, ap length all) in
-    word-slot t a 10 (omega arith) ∙ sym (ap (λ (ss : List Slot). (get_or ss 5 (slot 0 0)).key) all ∙ ap (λ (y : Slot). y.key) (in-use-at x.slots 5 six))
+    word-slot t a 10 (omega arith)
+    ∙ sym (ap (λ (ss : List Slot). (get_or ss 5 (slot 0 0)).key) all ∙ ap (λ (y : Slot). y.key) (in-use-at x.slots 5 six))
 
 -- ---- the run, one split at a time
 
@@ -115,18 +112,25 @@ middle-word t a b p s =
 abbrev pub pre : List Store → Going → Going
 pre xs g = going (xs ++ g.stores) g.table g.marks g.under
 
-pub way-pre : (N k : ℕ) (rest : List ℕ) (xs ys : List Store) (t ms : Words) (u : ℕ) → split_way N k rest (going (xs ++ ys) t ms u) ≡ pre xs (split_way N k rest (going ys t ms u))
+pub way-pre : (N k : ℕ) (rest : List ℕ) (xs ys : List Store) (t ms : Words) (u : ℕ) → split_way N k rest (going (xs ++ ys) t ms u)
+    ≡ pre xs (split_way N k rest (going ys t ms u))
 unfolding split_way
 way-pre N k [] xs ys t ms u = refl
 way-pre N k (a ∷ rest) xs ys t ms u =
     let b = free_after N ms a in
     let ss = split t a b u in
-    go (can_split N t a b u) refl (ap (λ (zs : List Store). split_way N k rest (going zs (apply ss t) (put ms b) (cond (ltb k (middle t a).key) a b))) (append_assoc xs ys ss)
+    go (can_split N t a b u) refl
+    (ap (λ (zs : List Store). split_way N k rest (going zs (apply ss t) (put ms b) (cond (ltb k (middle t a).key) a b)))
+    (append_assoc xs ys ss)
     ∙ way-pre N k rest xs (ys ++ ss) (apply ss t) (put ms b) (cond (ltb k (middle t a).key) a b))
   where
     go : (c : Bool) → can_split N t a (free_after N ms a) u ≡ c
-        → split_way N k rest (going ((xs ++ ys) ++ split t a (free_after N ms a) u) (apply (split t a (free_after N ms a) u) t) (put ms (free_after N ms a)) (cond (ltb k (middle t a).key) a (free_after N ms a)))
-        ≡ pre xs (split_way N k rest (going (ys ++ split t a (free_after N ms a) u) (apply (split t a (free_after N ms a) u) t) (put ms (free_after N ms a)) (cond (ltb k (middle t a).key) a (free_after N ms a))))
+        → split_way N k rest
+        (going ((xs ++ ys) ++ split t a (free_after N ms a) u) (apply (split t a (free_after N ms a) u) t) (put ms (free_after N ms a))
+        (cond (ltb k (middle t a).key) a (free_after N ms a)))
+        ≡ pre xs (split_way N k rest
+        (going (ys ++ split t a (free_after N ms a) u) (apply (split t a (free_after N ms a) u) t) (put ms (free_after N ms a))
+        (cond (ltb k (middle t a).key) a (free_after N ms a))))
         → split_way N k (a ∷ rest) (going (xs ++ ys) t ms u) ≡ pre xs (split_way N k (a ∷ rest) (going ys t ms u))
     go true e ih = rw (e, split_way) ih
     go false e ih = rw (e, split_way)
@@ -137,7 +141,8 @@ pub record Left (N k : ℕ) (rest : List ℕ) (f w : Writer) (ms : Words) (u : �
   pub marks : (split_way N k rest (going [] w.table.now ms u)).marks ≡ ms'
   pub under : (split_way N k rest (going [] w.table.now ms u)).under ≡ u'
 
-pub left-start : {N k : ℕ} {rest : List ℕ} {w : Writer} {ms : Words} {u : ℕ} → Room (split_way N k rest (going [] w.table.now ms u)).stores (of w)
+pub left-start : {N k : ℕ} {rest : List ℕ} {w : Writer} {ms : Words} {u : ℕ}
+    → Room (split_way N k rest (going [] w.table.now ms u)).stores (of w)
     → let g = split_way N k rest (going [] w.table.now ms u) in Left N k rest w w ms u (stored_all g.stores (of w)) g.marks g.under
 left-start r = record { stores = rest-start r; marks = refl; under = refl }
 
@@ -148,9 +153,12 @@ left-as {N} {k} rest us {f} {w} {ms} {u} {x} {ms'} {u'} e l = subst (λ (y : Lis
 
 module _ {N k : ℕ} {f w : Writer} {ms : Words} {u : ℕ} {x : Desk} {ms' : Words} {u' : ℕ} where
   -- the whole state stays
-  ended : {rest : List ℕ} → Left N k rest f w ms u x ms' u' → split_way N k rest (going [] w.table.now ms u) ≡ going [] w.table.now ms u → Becomes f x w × ((ms ≡ ms') × (u ≡ u'))
-  ended l e =
-      (rest-none (rest-same (ap (λ (g : Going). g.stores) e) l.stores), (sym (ap (λ (g : Going). g.marks) e) ∙ l.marks, sym (ap (λ (g : Going). g.under) e) ∙ l.under))
+  ended : {rest : List ℕ} → Left N k rest f w ms u x ms' u' → split_way N k rest (going [] w.table.now ms u) ≡ going [] w.table.now ms u
+      → Becomes f x w × ((ms ≡ ms') × (u ≡ u'))
+  ended l e = (
+    rest-none (rest-same (ap (λ (g : Going). g.stores) e) l.stores),
+    (sym (ap (λ (g : Going). g.marks) e) ∙ l.marks, sym (ap (λ (g : Going). g.under) e) ∙ l.under),
+  )
 
   pub left-end : Left N k [] f w ms u x ms' u' → Becomes f x w × ((ms ≡ ms') × (u ≡ u'))
   unfolding split_way
@@ -168,16 +176,19 @@ module _ {N k : ℕ} {f w : Writer} {ms : Words} {u : ℕ} {x : Desk} {ms' : Wor
     left-stop e = ended l (stays (rw eb at e))
 
     module _ (ok : can_split N t a b u ≡ true) where
-      goes : split_way N k (a ∷ rest) (going [] t ms u) ≡ split_way N k rest (going (split t a b u) (apply (split t a b u) t) (put ms b) (cond (ltb k (middle t a).key) a b))
+      goes : split_way N k (a ∷ rest) (going [] t ms u)
+          ≡ split_way N k rest (going (split t a b u) (apply (split t a b u) t) (put ms b) (cond (ltb k (middle t a).key) a b))
       unfolding split_way
       goes = let e : can_split N t a (free_after N ms a) u ≡ true = rw eb at ok in rw (e, split_way) (sym (rw eb))
 
       after : (u₁ : ℕ) → u₁ ≡ cond (ltb k (middle t a).key) a b
-          → split_way N k (a ∷ rest) (going [] t ms u) ≡ pre (split t a b u) (split_way N k rest (going [] (apply (split t a b u) t) (put ms b) u₁))
+          → split_way N k (a ∷ rest) (going [] t ms u)
+          ≡ pre (split t a b u) (split_way N k rest (going [] (apply (split t a b u) t) (put ms b) u₁))
       after u₁ e =
           let ss = split t a b u in
           goes ∙ ap (λ (y : ℕ). split_way N k rest (going ss (apply ss t) (put ms b) y)) (sym e)
-          ∙ ap (λ (zs : List Store). split_way N k rest (going zs (apply ss t) (put ms b) u₁)) (sym (append-nil ss)) ∙ way-pre N k rest ss [] (apply ss t) (put ms b) u₁
+          ∙ ap (λ (zs : List Store). split_way N k rest (going zs (apply ss t) (put ms b) u₁)) (sym (append-nil ss))
+          ∙ way-pre N k rest ss [] (apply ss t) (put ms b) u₁
 
       whole : (u₁ : ℕ) → u₁ ≡ cond (ltb k (middle t a).key) a b
           → Rest (split t a b u ++ (split_way N k rest (going [] (apply (split t a b u) t) (put ms b) u₁)).stores) f w x

@@ -1,13 +1,6 @@
 -- The tests of a quick insertion from 6 on, one by one, by a way along which every test passed.
-use mathlib.Core.Path.{◌≡◌, ap, sym, ◌∙◌}
-use mathlib.Core.Bool.{Bool, true, false, cond, ◌&&◌}
-use mathlib.Core.List.{List, [], ◌∷◌}
-use mathlib.Core.Logic.{◌⊎◌, inl, inr}
-use Prim.Native.Nat.{ℕ, suc, ◌+◌, ◌-◌, ◌≤◌, ◌<◌}
-use native.Mathlib.Omega.{arith}
-use lib.Dec.{eqb, leb, ltb}
-use lib.ListN.{length, get_or}
-use borrow.Author.Tests.{leb-true, ltb-true}
+use Rattle.std.proofs.Common.{◌≡◌, ℕ, suc, ◌+◌, ◌-◌, ◌<◌, ◌≤◌, Bool, true, false, cond, ◌&&◌, eqb, ltb, leb, ◌⊎◌, List, [], ◌∷◌, length}
+use Rattle.std.proofs.Common.{get_or, sym, ap, ◌∙◌, inl, inr, arith, ltb-true, leb-true}
 use Rattle.model.specs.Table.{Words, nodes}
 use Rattle.model.specs.Slots.{RECORDINGS, View, node_view, view_of, full, recording_ok, class_ok, pointer_of}
 use Rattle.model.specs.Search.{path}
@@ -82,7 +75,8 @@ module _ {n : ℕ} {ms t : Words} {k : ℕ} {w : Way} (a : Along n ms t k w) whe
         pub bad-class : q14 ≡ false → 14 ≡ first_number (own_tests (insertion n k r c) ms cs t)
         bad-class h = rw (sym e6 ∙ h6, sym e14 ∙ h)
 
-        module _ (h14 : q14 ≡ true) {x : ℕ} (ex : x ≡ get_or w.nodes (w.height - 0) 0) {q7 : Bool} (e7 : q7 ≡ has_key k (node_view t x).shown) where
+        module _ (h14 : q14 ≡ true) {x : ℕ} (ex : x ≡ get_or w.nodes (w.height - 0) 0) {q7 : Bool}
+            (e7 : q7 ≡ has_key k (node_view t x).shown) where
           key-is : key_there n t k ≡ q7
           key-is = sym (e7 ∙ ap (λ (m : ℕ). has_key k (node_view t m).shown) (along-on a 0 x ex))
 

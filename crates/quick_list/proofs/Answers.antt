@@ -1,7 +1,5 @@
 -- What a quick listing answers and leaves: after a refusal of its tests, and with a way.
-use mathlib.Core.Path.{◌≡◌, refl, ap, sym, ◌∙◌}
-use Prim.Native.Nat.{ℕ, zero, suc, ◌-◌}
-use lib.ListN.{get_or}
+use Rattle.std.proofs.Common.{◌≡◌, ℕ, zero, suc, ◌-◌, get_or, sym, refl, ap, ◌∙◌}
 use Rattle.std.specs.Prelude.{Err}
 use Rattle.model.specs.declared.Page.{Page}
 use Rattle.model.specs.declared.Refusal.{Refusal}
@@ -30,10 +28,12 @@ module _ (n : ℕ) (ws t : Words) (low high : ℕ) (out : Words) where
     where
       go : (m : ℕ) → quick_list_number n ws t low ≡ m → Answers (Err r) out
       go zero q = absurd (failed-some _ (passed-number r) (e ∙ q))
-      go (suc m) q = let same : ◌≡◌ {A = Listed} (refused_with (suc m)) (Err r) = ap refused_with (sym q ∙ sym e) ∙ refused-by r in rw q (sym same, refl)
+      go (suc m) q = let same : ◌≡◌ {A = Listed} (refused_with (suc m)) (Err r) =
+          ap refused_with (sym q ∙ sym e) ∙ refused-by r in rw q (sym same, refl)
 
   pub done : (w : Way) (x : ℕ) (p : Page) (u : Words) → 0 ≡ quick_list_number n ws t low → Along n (marks_in (nodes t) ws) t low w
-      → x ≡ get_or w.nodes (w.height - 0) 0 → sheet u p ≡ all_taken (pairs_from (view t) low high x) (begun out) → Answers (page_with p.count p.more) u
+      → x ≡ get_or w.nodes (w.height - 0) 0 → sheet u p ≡ all_taken (pairs_from (view t) low high x) (begun out)
+      → Answers (page_with p.count p.more) u
   unfolding quick_listed quick_list_out page_of
   done w x p u z a e s =
       let leaf : x ≡ standing n t 0 low = along-on a 0 x e in

@@ -1,10 +1,5 @@
 -- A quick class change from its refusals or its store to its end.
-use mathlib.Core.Path.{◌≡◌, refl, ap, sym, ◌∙◌}
-use mathlib.Core.Bool.{Bool, true, false, cond, not}
-use mathlib.Core.List.{List, ◌++◌}
-use Prim.Native.Nat.{ℕ, ◌-◌, ◌≤◌, ◌<◌}
-use native.Mathlib.Omega.{arith}
-use lib.ListN.{length, get_or}
+use Rattle.std.proofs.Common.{◌≡◌, ℕ, ◌-◌, ◌<◌, ◌≤◌, Bool, true, false, cond, not, List, ◌++◌, length, get_or, sym, refl, ap, ◌∙◌, arith}
 use Rattle.std.specs.Prelude.{Ok, Err}
 use Rattle.model.specs.declared.Refusal.{Refusal}
 use Rattle.model.specs.declared.Refusal.TheVariants.{BadClass, KeyAbsent}
@@ -15,7 +10,8 @@ use Rattle.model.specs.Slots.{class_ok, node_view}
 use Rattle.model.specs.Shifts.{place_of}
 use Rattle.model.specs.Writes.{set_class_at, class_change}
 use Rattle.model.specs.Refusals.{Test, words_for, first_number, has_key}
-use Rattle.model.specs.Summary.{marks_in, cells_in, leaf_for, key_there, own_tests, quick_number, quick_stores, quick_words, quick_list_number}
+use Rattle.model.specs.Summary.{marks_in, cells_in, leaf_for, key_there, own_tests, quick_number, quick_stores, quick_words}
+use Rattle.model.specs.Summary.{quick_list_number}
 use Rattle.model.proofs.Numbers.{passed-zero, failed-some}
 use Rattle.list_laws.proofs.Recordings.{class-iff}
 use Rattle.table_laws.proofs.Header.{header-iff}
@@ -28,7 +24,8 @@ use Rattle.way.specs.declared.Way.{Way}
 use Rattle.way.specs.Ways.{Along}
 use Rattle.way.proofs.Walking.{along-ok, along-on}
 use Rattle.quick.specs.Lists.{lent_tests, lent_number}
-use Rattle.quick.proofs.Ending.{Promised, begin_tests, begin-refused, begin-passed, lent-refused, lent-passed, list-long, refusal-some, refused-for, refused-as, Begun}
+use Rattle.quick.proofs.Ending.{Promised, begin_tests, begin-refused, begin-passed, lent-refused, lent-passed, list-long, refusal-some}
+use Rattle.quick.proofs.Ending.{refused-for, refused-as, Begun}
 
 -- accepted: the leaf x has k
 pub record Ready (n k c dock : ℕ) (t lent ws : Words) (x : ℕ) : Type 0 where
@@ -40,7 +37,8 @@ pub record Ready (n k c dock : ℕ) (t lent ws : Words) (x : ℕ) : Type 0 where
   pub place : place_of k (node_view t x).shown < length (node_view t x).shown
   pub stores : quick_stores (class_change n k c) ws t ≡ set_class_at t x k c
 
-pub begun : {n k c dock : ℕ} {t lent ws : Words} {x : ℕ} → Ready n k c dock t lent ws x → {p : Pen} → p ≡ first_pen dock → Begun (class_change n k c) dock ws (desk t lent p)
+pub begun : {n k c dock : ℕ} {t lent ws : Words} {x : ℕ} → Ready n k c dock t lent ws x → {p : Pen} → p ≡ first_pen dock
+    → Begun (class_change n k c) dock ws (desk t lent p)
 begun r e = record { accepted = r.accepted; long = r.long; first = e }
 
 pub words-as : (n k c : ℕ) (ws t : Words) → ws ≡ quick_words (class_change n k c) ws t
@@ -51,21 +49,26 @@ module _ (n k c dock : ℕ) (t lent ws : Words) where
   abbrev own : List Test
   own = own_tests (class_change n k c) (marks_in (nodes t) ws) (cells_in (nodes t) ws) t
 
-  parts : quick_number (class_change n k c) (length lent) dock ws t ≡ first_number (begin_tests n ws t k ++ (lent_tests (length lent) dock ++ own))
+  parts : quick_number (class_change n k c) (length lent) dock ws t
+      ≡ first_number (begin_tests n ws t k ++ (lent_tests (length lent) dock ++ own))
   unfolding quick_number
   parts = refl
 
-  pub begin-refuses : {e : Refusal} → refusal_number e ≡ quick_list_number n ws t k → Promised (class_change n k c) t lent ws dock (Err e) t lent ws
+  pub begin-refuses : {e : Refusal} → refusal_number e ≡ quick_list_number n ws t k
+      → Promised (class_change n k c) t lent ws dock (Err e) t lent ws
   begin-refuses {e} q =
-      refused-for (class_change n k c) t lent ws dock e (parts ∙ begin-refused n ws t k (lent_tests (length lent) dock ++ own) (λ z. refusal-some e (q ∙ z)) ∙ sym q)
+      refused-for (class_change n k c) t lent ws dock e
+      (parts ∙ begin-refused n ws t k (lent_tests (length lent) dock ++ own) (λ z. refusal-some e (q ∙ z)) ∙ sym q)
 
   module _ (b : 0 ≡ quick_list_number n ws t k) where
     later : quick_number (class_change n k c) (length lent) dock ws t ≡ first_number (lent_tests (length lent) dock ++ own)
     later = parts ∙ begin-passed n ws t k (lent_tests (length lent) dock ++ own) (sym b)
 
-    pub lent-refuses : {e : Refusal} → passed (lent_number (length lent) dock) ≡ Err e → Promised (class_change n k c) t lent ws dock (Err e) t lent ws
+    pub lent-refuses : {e : Refusal} → passed (lent_number (length lent) dock) ≡ Err e
+        → Promised (class_change n k c) t lent ws dock (Err e) t lent ws
     lent-refuses f =
-        refused-as (class_change n k c) t lent ws dock (lent_number (length lent) dock) f (later ∙ lent-refused (length lent) dock own (failed-some (lent_number (length lent) dock) f))
+        refused-as (class_change n k c) t lent ws dock (lent_number (length lent) dock) f
+        (later ∙ lent-refused (length lent) dock own (failed-some (lent_number (length lent) dock) f))
 
     module _ (l : passed (lent_number (length lent) dock) ≡ Ok tt) where
       number : quick_number (class_change n k c) (length lent) dock ws t ≡ cond (not (class_ok c)) 14 (cond (not (key_there n t k)) 9 0)
@@ -75,7 +78,8 @@ module _ (n k c dock : ℕ) (t lent ws : Words) where
       class-refuses e = refused-for (class_change n k c) t lent ws dock BadClass (number ∙ rw (← e))
 
       -- by the leaf x that the way has
-      module _ (e : true ≡ class_ok c) {w : Way} (a : Along n (marks_in (nodes t) ws) t k w) {x : ℕ} (ex : x ≡ get_or w.nodes (w.height - 0) 0) where
+      module _ (e : true ≡ class_ok c) {w : Way} (a : Along n (marks_in (nodes t) ws) t k w) {x : ℕ}
+          (ex : x ≡ get_or w.nodes (w.height - 0) 0) where
         leaf : x ≡ leaf_for n t k
         leaf = along-on a 0 x ex
 

@@ -1,10 +1,5 @@
 -- A quick repair: its tests in the order of the code, and what it answers without a store.
-use mathlib.Core.Path.{◌≡◌, ◌∙◌}
-use mathlib.Core.Bool.{true}
-use mathlib.Core.Logic.{◌≢◌}
-use Prim.Native.Nat.{ℕ}
-use lib.ListN.{length}
-use borrow.Author.Tests.{eq-eqb, ne_eqb}
+use Rattle.std.proofs.Common.{◌≡◌, ℕ, true, ◌≢◌, length, ◌∙◌, eq-eqb, ne_eqb}
 use Rattle.std.specs.Prelude.{Ok, Err}
 use Rattle.model.specs.declared.Refusal.{Refusal}
 use Rattle.model.specs.declared.Refusal.TheVariants.{OtherSummary}
@@ -44,6 +39,7 @@ module _ (dock : ℕ) (t lent ws : Words) where
       lent-refuses f = refused-as repair t lent ws dock (lent_number (length lent) dock) f number
 
       -- by three counts of 0
-      pub no-stores : passed (lent_number (length lent) dock) ≡ Ok tt → {s f b : ℕ} → s ≡ 0 → f ≡ 0 → b ≡ 0 → done_with s f b ≡ quick_written repair (length lent) dock ws t
+      pub no-stores : passed (lent_number (length lent) dock) ≡ Ok tt → {s f b : ℕ} → s ≡ 0 → f ≡ 0 → b ≡ 0 → done_with s f b
+          ≡ quick_written repair (length lent) dock ws t
       unfolding quick_written quick_stores orders store_count flush_count barrier_count
       no-stores l es ef eb = rw (number ∙ passed-zero _ l, quick_written, barred-nil dock, es, ef, eb)

@@ -1,10 +1,5 @@
 -- One level of a search's descent from the words of a table, and the node on a level that it stands on.
-use mathlib.Core.Path.{◌≡◌, ap, sym, ◌∙◌}
-use mathlib.Core.Bool.{true, false}
-use mathlib.Core.List.{List}
-use Prim.Native.Nat.{ℕ, zero, suc, ◌+◌, ◌-◌, ◌≤◌, ◌<◌}
-use native.Mathlib.Omega.{arith}
-use lib.ListN.{get_or}
+use Rattle.std.proofs.Common.{◌≡◌, ℕ, zero, suc, ◌+◌, ◌-◌, ◌<◌, ◌≤◌, true, false, List, get_or, sym, ap, ◌∙◌, arith}
 use Rattle.model.specs.Table.{Words, root}
 use Rattle.model.specs.Slots.{View, node_view, view_from, view}
 use Rattle.model.specs.Search.{below, within, moved, down, path_from}
@@ -59,4 +54,6 @@ on-lower v (suc l) r n k j m c h o p d =
 -- the whole descent
 pub on-top : (t : Words) (r l k j : ℕ) → l ≡ word_of t r 2 → node_on (view t) l r k j ≡ standing_in (view_from t r) j k
 unfolding standing_in
-on-top t r l k j e = rw (e ∙ word-level t r) (ap (λ (ns : List ℕ). get_or ns ((node_view t r).level - j) 0) (any-path t (root t) r (node_view t r).level r k))
+on-top t r l k j e =
+    rw (e ∙ word-level t r)
+    (ap (λ (ns : List ℕ). get_or ns ((node_view t r).level - j) 0) (any-path t (root t) r (node_view t r).level r k))

@@ -1,12 +1,5 @@
 -- Whether a leaf is freed, by the tests that the code makes: how many slots x shows, the root's level, left of p.
-use mathlib.Core.Path.{◌≡◌}
-use mathlib.Core.Bool.{false, not}
-use mathlib.Core.Logic.{◌≢◌}
-use Prim.Native.Nat.{ℕ}
-use native.Mathlib.Omega.{arith}
-use lib.Dec.{eqb}
-use lib.ListN.{length}
-use borrow.Author.Tests.{eq-eqb, ne_eqb, le-ltb, lt-ltb}
+use Rattle.std.proofs.Common.{◌≡◌, ℕ, false, not, eqb, ◌≢◌, length, arith, le-ltb, lt-ltb, eq-eqb, ne_eqb}
 use Rattle.model.specs.Table.{Words, at, root_word}
 use Rattle.model.specs.Slots.{node_view}
 use Rattle.model.specs.Writes.{frees_leaf}

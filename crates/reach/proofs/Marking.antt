@@ -1,15 +1,11 @@
 -- Marked nodes are reached: nodes more, and the ways of a reached inner node.
-use mathlib.Core.Path.{◌≡◌, refl, ap, sym, ◌∙◌}
-use mathlib.Core.Bool.{Bool, true, false, cond, ◌||◌, false≢true}
-use mathlib.Core.Logic.{◌≢◌, ◌⊎◌, ⊎_elim}
-use mathlib.Core.List.{List, [], ◌∷◌, ◌++◌, Memᴰ}
-use Prim.Native.Nat.{ℕ, zero, suc, ◌+◌, ◌*◌, ◌-◌, ◌/◌, ◌≤◌, ◌<◌}
-use native.Mathlib.Numerals.{add-one}
-use native.Mathlib.Omega.{arith}
-use lib.Dec.{eqb}
-use lib.ListN.{length, get_or, take, drop, drop_of_length-le, replicate, length-replicate}
-use lib.Seq.{set_out, drop-cons}
-use borrow.Author.Tests.{eq-eqb, ne_eqb}
+use Rattle.std.proofs.Common.{◌≡◌, ℕ, zero, suc, ◌+◌, ◌-◌, ◌*◌, ◌/◌, ◌<◌, ◌≤◌, Bool, true, false, cond, ◌||◌, eqb, ◌≢◌, ◌⊎◌, List, [], ◌∷◌}
+use Rattle.std.proofs.Common.{◌++◌, length, get_or, take, drop, replicate, sym, refl, ap, ◌∙◌, ⊎_elim, add-one, arith, drop_of_length-le}
+use Rattle.std.proofs.Common.{drop-cons, eq-eqb, ne_eqb}
+use mathlib.Core.Bool.{false≢true}
+use mathlib.Core.List.{Memᴰ}
+use lib.ListN.{length-replicate}
+use lib.Seq.{set_out}
 use Rattle.model.specs.Table.{Words, at, root}
 use Rattle.model.specs.Slots.{View, node_view, view_from, view_of, view}
 use Rattle.model.specs.Reached.{pointers, named, next_child, children, reached, reached_all}
@@ -43,7 +39,8 @@ put-inside t ws n h a k m e = ⊎_elim (λ q. rw q k) (λ q. a m (sym (has-put-o
 
 pub put-taken : (t ws : Words) (n : ℕ) → AllTaken t ws → Taken t n → AllTaken t (put ws n)
 put-taken t ws n a k =
-    let past : ((n ≡ 64 * length ws) ⊎ (64 * length ws < n)) → 64 * length ws ≤ n = ⊎_elim (λ (e : n ≡ 64 * length ws). omega arith) (λ (g : 64 * length ws < n). omega arith) in
+    let past : ((n ≡ 64 * length ws) ⊎ (64 * length ws < n)) → 64 * length ws ≤ n =
+    ⊎_elim (λ (e : n ≡ 64 * length ws). omega arith) (λ (g : 64 * length ws < n). omega arith) in
     ⊎_elim (λ h. put-inside t ws n h a k) (λ o. rw (sym (put-out ws n (past o))) a) (compared n (64 * length ws))
 
 pub put_all-append : (ms ns : List ℕ) (ws : Words) → put_all (ms ++ ns) ws ≡ put_all ns (put_all ms ws)
@@ -56,6 +53,7 @@ unfolding put_all
 put_all-taken t [] ws k a = a
 put_all-taken t (n ∷ ns) ws k a = put_all-taken t ns (put ws n) k.1 (put-taken t ws n a k.0)
 
+-- marks of zeros mark no node
 pub none-taken : (t : Words) → Marked t (replicate MARKS 0)
 none-taken t = (length-replicate {A = ℕ} MARKS 0, λ m e. absurd (false≢true (sym (none-marked MARKS m) ∙ e)))
 
@@ -66,7 +64,8 @@ stays-marked t u marks f m = (m.0, λ n e. f n (m.1 n e))
 -- ---- children of a reached inner node are reached
 
 -- in one tree
-named-reached : (v : View) (n c : ℕ) → Orderly v → (v.node n).level ≢ 0 → elem n (reached v) ≡ true → Memᴰ c (named v n) → elem c (reached v) ≡ true
+named-reached : (v : View) (n c : ℕ) → Orderly v → (v.node n).level ≢ 0 → elem n (reached v) ≡ true → Memᴰ c (named v n)
+    → elem c (reached v) ≡ true
 named-reached v n c o z e m =
     let d : (v.node n).level ≡ suc ((v.node n).level - 1) = omega arith in
     let k : Memᴰ c (children v n) = rw (children-inner v ((v.node n).level - 1) n d) (fill-mem v (next_child v n) m) in
@@ -90,9 +89,12 @@ module _ (t : Words) (s : sound t ≡ true) (n c : ℕ) (z : (node_view t n).lev
   beside y e =
       elem-beside t y c ∙ go (elem n (reached (view_of 1 t))) (elem n (reached (view_of 2 t))) refl refl (sym (elem-beside t y n) ∙ e)
     where
-      go : (a b : Bool) → elem n (reached (view_of 1 t)) ≡ a → elem n (reached (view_of 2 t)) ≡ b → (a || b) ≡ true → (elem c (reached (view_of 1 t)) || elem c (reached (view_of 2 t))) ≡ true
+      go : (a b : Bool) → elem n (reached (view_of 1 t)) ≡ a → elem n (reached (view_of 2 t)) ≡ b → (a || b) ≡ true
+          → (elem c (reached (view_of 1 t)) || elem c (reached (view_of 2 t))) ≡ true
       go true b p q h = rw (in-tree 1 (collection-orderly 1 t s (first-there t)) p)
-      go false true p q h = or-right (elem c (reached (view_of 1 t))) (elem c (reached (view_of 2 t))) (in-tree 2 (collection-orderly 2 t s (second-there t y)) q)
+      go false true p q h =
+          or-right (elem c (reached (view_of 1 t))) (elem c (reached (view_of 2 t)))
+          (in-tree 2 (collection-orderly 2 t s (second-there t y)) q)
       go false false p q h = absurd (false≢true h)
 
   pub named-taken : Taken t n → Taken t c
@@ -103,7 +105,8 @@ pub named-by-taken : (t : Words) (n : ℕ) → sound t ≡ true → Each (Taken 
 unfolding named_by
 named-by-taken t n s = go (eqb (node_view t n).level 0) (elem n (reached_all t)) refl refl
   where
-    go : (a b : Bool) → eqb (node_view t n).level 0 ≡ a → elem n (reached_all t) ≡ b → Each (Taken t) (cond a [] (cond b (named (view t) n) []))
+    go : (a b : Bool) → eqb (node_view t n).level 0 ≡ a → elem n (reached_all t) ≡ b
+        → Each (Taken t) (cond a [] (cond b (named (view t) n) []))
     go true b p q = tt
     go false false p q = tt
     go false true p q =
@@ -115,12 +118,14 @@ named-by-taken t n s = go (eqb (node_view t n).level 0) (elem n (reached_all t))
 ways-taken : (ks ps : Words) (i m : ℕ) → i + m ≤ length ps → pointers (span ks ps i m) ≡ take m (drop i ps)
 unfolding span
 ways-taken ks ps i zero h = refl
-ways-taken ks ps i (suc m) h = rw (drop-cons ps i 0 (omega arith)) (ap (λ (ns : List ℕ). get_or ps i 0 ∷ ns) (ways-taken ks ps (suc i) m (omega arith)))
+ways-taken ks ps i (suc m) h =
+    rw (drop-cons ps i 0 (omega arith)) (ap (λ (ns : List ℕ). get_or ps i 0 ∷ ns) (ways-taken ks ps (suc i) m (omega arith)))
 
 pub pointers-taken : (w : Ways) → w.count ≤ length w.pointers → pointers (slots_in w) ≡ take w.count w.pointers
 pointers-taken w h = ways-taken w.keys w.pointers 0 w.count (omega arith)
 
-pub put_all-more : (ns : List ℕ) (i : ℕ) (ws : Words) → i < length ns → put_all (drop (i + 1) ns) (put ws (get_or ns i 0)) ≡ put_all (drop i ns) ws
+pub put_all-more : (ns : List ℕ) (i : ℕ) (ws : Words) → i < length ns → put_all (drop (i + 1) ns) (put ws (get_or ns i 0))
+    ≡ put_all (drop i ns) ws
 unfolding put_all
 put_all-more ns i ws h = rw (add-one i, drop-cons ns i 0 h)
 
@@ -147,5 +152,6 @@ module _ (t : Words) (n l : ℕ) (q : l ≡ word_of t n 2) (ws : Words) where
     unfolding named_by
     names-all e = rw (inner-level, e)
 
-    pub ways-named : (w : Ways) → slots_in w ≡ ways (view t) n → Taken t n → (after : Words) → after ≡ put_all (pointers (slots_in w)) ws → after ≡ put_all (named_by t n) ws
+    pub ways-named : (w : Ways) → slots_in w ≡ ways (view t) n → Taken t n → (after : Words) → after ≡ put_all (pointers (slots_in w)) ws
+        → after ≡ put_all (named_by t n) ws
     ways-named w is e after p = p ∙ ap (λ (ns : List ℕ). put_all ns ws) (ap pointers is ∙ sym (names-all e))

@@ -1,12 +1,6 @@
 -- A sound table: its header, and which of its nodes are reached, from a root and from either.
-use mathlib.Core.Path.{◌≡◌, refl, ap, sym, ◌∙◌}
-use mathlib.Core.Bool.{Bool, true, false}
-use mathlib.Core.Logic.{◌≢◌, ◌⊎◌, inl, inr}
-use Prim.Native.Nat.{ℕ, ◌-◌, ◌≤◌, ◌<◌}
-use native.Mathlib.Omega.{arith}
-use lib.Dec.{eqb, leb}
-use lib.ListN.{length}
-use borrow.Author.Tests.{eqb-true, eq-eqb, leb-true, leb-false}
+use Rattle.std.proofs.Common.{◌≡◌, ℕ, ◌-◌, ◌<◌, ◌≤◌, Bool, true, false, eqb, leb, ◌≢◌, ◌⊎◌, length, sym, refl, ap, ◌∙◌, inl, inr, arith}
+use Rattle.std.proofs.Common.{eq-eqb, eqb-true, leb-false, leb-true}
 use Rattle.model.specs.Table.{Words, at, nodes}
 use Rattle.model.specs.Slots.{View, view_from, view_of, height}
 use Rattle.model.specs.Reached.{reached, reached_all}
@@ -44,7 +38,8 @@ module _ (v : View) (o : Orderly v) where
   unfolding standing_in
   top-most l k h = let e : height v - l ≡ 0 = omega arith in rw e (path-root v k o)
 
-  not-above : (n : ℕ) → standing_in v (v.node n).level (v.node n).fence ≡ n → (b : Bool) → leb (v.node n).level (height v) ≡ b → (v.node n).level ≤ height v
+  not-above : (n : ℕ) → standing_in v (v.node n).level (v.node n).fence ≡ n → (b : Bool) → leb (v.node n).level (height v) ≡ b
+      → (v.node n).level ≤ height v
   not-above n e true c = leb-true _ _ c
   not-above n e false c =
       let h = leb-false (v.node n).level (height v) c in
@@ -63,8 +58,10 @@ module _ (v : View) (o : Orderly v) where
       )
 
 -- the same, from the words that the code has read
-pub stands-there : (t : Words) (q n l f r : ℕ) → sound_view (view_from t q) ≡ true → l ≡ word_of t n 2 → f ≡ word_of t n 3 → r ≡ standing_in (view_from t q) l f → eqb r n ≡ elem n (reached (view_from t q))
-stands-there t q n l f r h e g s = rw (s, e ∙ word-level t n, g ∙ word-fence t n) (reached-stands (view_from t q) (sound-orderly (view_from t q) h) n)
+pub stands-there : (t : Words) (q n l f r : ℕ) → sound_view (view_from t q) ≡ true → l ≡ word_of t n 2 → f ≡ word_of t n 3 → r
+    ≡ standing_in (view_from t q) l f → eqb r n ≡ elem n (reached (view_from t q))
+stands-there t q n l f r h e g s =
+    rw (s, e ∙ word-level t n, g ∙ word-fence t n) (reached-stands (view_from t q) (sound-orderly (view_from t q) h) n)
 
 -- ---- from either, by the tests in the order of the code
 
@@ -91,7 +88,8 @@ pub root-few : (t : Words) → sound t ≡ true → at t 1 ≤ 65535
 root-few t s = omega (arith, sound-few t s, (root-range 1 t (sound-head t s) (first-there t)).1)
 
 pub root-taken : (t : Words) → sound t ≡ true → elem (at t 1) (reached_all t) ≡ true
-root-taken t s = sym (taken-first t (at t 1) true (sym ((elem-iff (at t 1) (reached (view_of 1 t))).1 (root-in (view_of 1 t) (root-orderly t s)))) refl)
+root-taken t s = sym
+    (taken-first t (at t 1) true (sym ((elem-iff (at t 1) (reached (view_of 1 t))).1 (root-in (view_of 1 t) (root-orderly t s)))) refl)
 
 -- no node has number 0
 pub zero-free : (t : Words) → sound t ≡ true → elem 0 (reached_all t) ≡ false

@@ -1,13 +1,7 @@
 -- The level above the leaves: its leftmost node, its nodes along the siblings, and the leaves that they name.
-use mathlib.Core.Path.{◌≡◌, refl, ap, sym, ◌∙◌}
-use mathlib.Core.Bool.{true, false}
-use mathlib.Core.Logic.{◌≢◌, ⊎_elim}
-use mathlib.Core.List.{List, [], ◌∷◌, ◌++◌, Memᴰ, append-nil}
-use Prim.Native.Nat.{ℕ, zero, suc, ◌+◌, ◌-◌, ◌≤◌}
-use native.Mathlib.Omega.{arith}
-use lib.Dec.{eqb}
-use lib.ListN.{length, length-append}
-use borrow.Author.Tests.{eq-eqb, ne_eqb}
+use Rattle.std.proofs.Common.{◌≡◌, ℕ, zero, suc, ◌+◌, ◌-◌, ◌≤◌, true, false, eqb, ◌≢◌, List, [], ◌∷◌, ◌++◌, length, sym, refl, ap, ◌∙◌}
+use Rattle.std.proofs.Common.{⊎_elim, append-nil, arith, length-append, eq-eqb, ne_eqb}
+use mathlib.Core.List.{Memᴰ}
 use Rattle.model.specs.Table.{Words, at, nodes, root, has_node}
 use Rattle.model.specs.Slots.{Slot, View, node_view, view_from, view_of, view, height}
 use Rattle.model.specs.Reached.{flat, head_or, pointers, named, children, reached_from, leaves_from, trees, reached}
@@ -50,12 +44,14 @@ module _ (t : Words) (ns : List ℕ) (ws : Words) where
 
 -- ---- a row i levels down
 
-leftmost-row : (v : View) (i j d n : ℕ) (ns : List ℕ) → d ≡ i + j → Level v d ns → head_or 0 ns ≡ n → leftmost v i n ≡ head_or 0 (leaves_from v i ns)
+leftmost-row : (v : View) (i j d n : ℕ) (ns : List ℕ) → d ≡ i + j → Level v d ns → head_or 0 ns ≡ n → leftmost v i n
+    ≡ head_or 0 (leaves_from v i ns)
 unfolding leftmost leaves_from
 leftmost-row v zero j d n ns q l e = sym e
 leftmost-row v (suc i) j zero n ns q l e = absurd (omega arith)
 leftmost-row v (suc i) j (suc d) n ns q l e =
-    let first : head_or 0 (flat (children v) ns) ≡ (v.node n).left = head-children v d ns l.row.at ∙ first-child v (head_or 0 ns) l.some ∙ ap (left_of v) e in
+    let first : head_or 0 (flat (children v) ns) ≡ (v.node n).left =
+    head-children v d ns l.row.at ∙ first-child v (head_or 0 ns) l.some ∙ ap (left_of v) e in
     leftmost-row v i j d (v.node n).left (flat (children v) ns) (omega arith) (level-lower v d ns l) first
 
 row-few : (v : View) (i d : ℕ) (ns : List ℕ) → i ≤ d → length (leaves_from v i ns) ≤ length (reached_from v d ns)
@@ -80,7 +76,8 @@ module _ (v : View) (o : Orderly v) where
   pub along-parents : along v v.nodes (first_parent v) ≡ parents
   unfolding first_parent
   along-parents =
-      ap (along v v.nodes) (leftmost-row v (height v - 1) (height v - (height v - 1)) (height v) v.root (v.root ∷ []) (omega arith) top refl)
+      ap (along v v.nodes)
+      (leftmost-row v (height v - 1) (height v - (height v - 1)) (height v) v.root (v.root ∷ []) (omega arith) top refl)
       ∙ along-row v (height v - (height v - 1)) v.nodes parents low.row.at low.row.chain
       (omega (arith, row-few v (height v - 1) (height v) (v.root ∷ []) (omega arith), reached-few v o))
 
@@ -112,7 +109,8 @@ module _ (t : Words) (r : ℕ) (o : Orderly (view_from t r)) (f : (n : ℕ) → 
   tree-named : flat (named_by t) (parents v o) ≡ named_leaves v
   unfolding named_leaves
   tree-named = ⊎_elim (λ z. root-leaf z ∙ rw (eq-eqb (height v) 0 z))
-      (λ z. flat-each (named_by t) (named v) (parents v o) (mem-each _ (parents v o) (by-parent z)) ∙ rw (ne_eqb (height v) 0 z)) (same-or-not (height v) 0)
+      (λ z. flat-each (named_by t) (named v) (parents v o) (mem-each _ (parents v o) (by-parent z)) ∙ rw (ne_eqb (height v) 0 z))
+      (same-or-not (height v) 0)
 
   pub tree-leaves : (first : ℕ) → first ≡ first_parent v → flat (named_by t) (along (view t) (nodes t) first) ≡ named_leaves v
   tree-leaves first e = rw e (ap (flat (named_by t)) (any-along t (root t) r (nodes t) (first_parent v) ∙ along-parents v o) ∙ tree-named)
@@ -124,7 +122,8 @@ no-parent : (t : Words) → first_parent (view_from t 0) ≡ 0
 unfolding first_parent leftmost word_of has_node
 no-parent t = let e : (node_view t 0).level ≡ 0 = sym (word-level t 0) in rw e
 
-module _ (t : Words) (s : sound t ≡ true) (a b : ℕ) (p : a ≡ first_parent (view_from t (at t 1))) (q : b ≡ first_parent (view_from t (at t 3))) where
+module _ (t : Words) (s : sound t ≡ true) (a b : ℕ) (p : a ≡ first_parent (view_from t (at t 1)))
+    (q : b ≡ first_parent (view_from t (at t 3))) where
   abbrev named_from : ℕ → List ℕ
   named_from first = flat (named_by t) (along (view t) (nodes t) first)
 
@@ -133,7 +132,8 @@ module _ (t : Words) (s : sound t ≡ true) (a b : ℕ) (p : a ≡ first_parent 
 
   second-tree : at t 3 ≢ 0 → named_from b ≡ named_leaves (view_of 2 t)
   second-tree z =
-      tree-leaves t (at t 3) (collection-orderly 2 t s (second-there t z)) (λ n e. elem-beside t z n ∙ or-right (elem n (reached (view_of 1 t))) (elem n (reached (view_of 2 t))) e) b q
+      tree-leaves t (at t 3) (collection-orderly 2 t s (second-there t z))
+      (λ n e. elem-beside t z n ∙ or-right (elem n (reached (view_of 1 t))) (elem n (reached (view_of 2 t))) e) b q
 
   no-second : at t 3 ≡ 0 → named_from b ≡ []
   unfolding flat
@@ -141,11 +141,15 @@ module _ (t : Words) (s : sound t ≡ true) (a b : ℕ) (p : a ≡ first_parent 
 
   pub all-leaves : named_from a ++ named_from b ≡ flat named_leaves (trees t)
   unfolding flat
-  all-leaves = ⊎_elim (λ z. rw (first-tree, no-second z, trees-one t z)) (λ z. rw (first-tree, second-tree z, trees-two t z, append-nil (named_leaves (view_of 2 t)))) (same-or-not (at t 3) 0)
+  all-leaves = ⊎_elim (λ z. rw (first-tree, no-second z, trees-one t z))
+      (λ z. rw (first-tree, second-tree z, trees-two t z, append-nil (named_leaves (view_of 2 t)))) (same-or-not (at t 3) 0)
 
   -- marked one after the other
-  pub all-marked : (ws one two : Words) → one ≡ put_all (named_from a) ws → two ≡ put_all (named_from b) one → two ≡ put_all (flat named_leaves (trees t)) ws
-  all-marked ws one two e f = f ∙ ap (put_all (named_from b)) e ∙ sym (put_all-append (named_from a) (named_from b) ws) ∙ ap (λ (ns : List ℕ). put_all ns ws) all-leaves
+  pub all-marked : (ws one two : Words) → one ≡ put_all (named_from a) ws → two ≡ put_all (named_from b) one → two
+      ≡ put_all (flat named_leaves (trees t)) ws
+  all-marked ws one two e f =
+      f ∙ ap (put_all (named_from b)) e ∙ sym (put_all-append (named_from a) (named_from b) ws)
+      ∙ ap (λ (ns : List ℕ). put_all ns ws) all-leaves
 
 flat-named : (t : Words) (ns : List ℕ) → sound t ≡ true → Each (Taken t) (flat (named_by t) ns)
 unfolding flat
@@ -153,4 +157,5 @@ flat-named t [] s = tt
 flat-named t (n ∷ ns) s = Each-append (Taken t) (named_by t n) (flat (named_by t) ns) (named-by-taken t n s) (flat-named t ns s)
 
 pub leaves-taken : (t : Words) → sound t ≡ true → Each (Taken t) (flat named_leaves (trees t))
-leaves-taken t s = rw (← all-leaves t s _ _ refl refl) (Each-append (Taken t) (flat (named_by t) _) (flat (named_by t) _) (flat-named t _ s) (flat-named t _ s))
+leaves-taken t s = rw (← all-leaves t s _ _ refl refl)
+    (Each-append (Taken t) (flat (named_by t) _) (flat (named_by t) _) (flat-named t _ s) (flat-named t _ s))

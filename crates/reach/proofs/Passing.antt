@@ -1,19 +1,14 @@
 -- Nodes passed in a search for a fresh one: which are reached, and which get a mark.
-use mathlib.Core.Path.{◌≡◌, refl, ap, sym, ◌∙◌}
-use mathlib.Core.Bool.{Bool, true, false}
-use mathlib.Core.Logic.{◌≢◌, ⊎_elim}
-use Prim.Native.Nat.{ℕ, zero, suc, ◌+◌, ◌-◌, ◌≤◌, ◌<◌}
-use native.Mathlib.Numerals.{add-one}
-use native.Mathlib.Omega.{arith}
-use lib.Dec.{leb}
-use borrow.Author.Tests.{eq-eqb, ne_eqb, leb-true, leb-false, lt-ltb, le-ltb}
+use Rattle.std.proofs.Common.{◌≡◌, ℕ, zero, suc, ◌+◌, ◌-◌, ◌<◌, ◌≤◌, Bool, true, false, leb, ◌≢◌, sym, refl, ap, ◌∙◌, ⊎_elim, add-one}
+use Rattle.std.proofs.Common.{arith, le-ltb, lt-ltb, eq-eqb, ne_eqb, leb-false, leb-true}
 use Rattle.model.specs.Table.{Words, at, nodes}
 use Rattle.model.specs.Reached.{flat, trees, reached_all}
 use Rattle.model.specs.SoundTest.{elem, sound}
 use Rattle.model.specs.Writes.{numbers}
 use Rattle.list_laws.proofs.Tools.{same-or-not}
 use Rattle.bits.specs.Bits.{has, put}
-use Rattle.reach.specs.Marks.{Taken, AllTaken, put_all, named_leaves, marked_once, marked_if, looked_at, looked_round, fresh_round, fresh_marks}
+use Rattle.reach.specs.Marks.{Taken, AllTaken, put_all, named_leaves, marked_once, marked_if, looked_at, looked_round, fresh_round}
+use Rattle.reach.specs.Marks.{fresh_marks}
 use Rattle.reach.proofs.Members.{root-taken, zero-free}
 use Rattle.reach.proofs.Marking.{put-taken, put_all-taken}
 use Rattle.reach.proofs.Parents.{leaves-taken}
@@ -27,11 +22,13 @@ module _ (t ws : Words) where
   unfolding marked_once
   once-known e = rw e
 
-  pub once-new : has ws (at t 1) ≡ false → (all after : Words) → all ≡ put_all (flat named_leaves (trees t)) ws → after ≡ put all (at t 1) → after ≡ marked_once t ws
+  pub once-new : has ws (at t 1) ≡ false → (all after : Words) → all ≡ put_all (flat named_leaves (trees t)) ws → after ≡ put all (at t 1)
+      → after ≡ marked_once t ws
   unfolding marked_once
   once-new e all after p q = rw (e, q, p)
 
-  pub once-taken : sound t ≡ true → AllTaken t ws → (all after : Words) → all ≡ put_all (flat named_leaves (trees t)) ws → after ≡ put all (at t 1) → AllTaken t after
+  pub once-taken : sound t ≡ true → AllTaken t ws → (all after : Words) → all ≡ put_all (flat named_leaves (trees t)) ws → after
+      ≡ put all (at t 1) → AllTaken t after
   once-taken s a all after p q = rw (q, p) (put-taken t _ (at t 1) (put_all-taken t _ ws (leaves-taken t s) a) (root-taken t s))
 
 -- ---- one node
@@ -64,7 +61,8 @@ module _ (t : Words) where
   look-one n last ws h k = rw (add-one n, row-more n last h, k)
 
   -- a run of marked ones
-  look-past : (r n last : ℕ) (ws : Words) → AllTaken t ws → ((m : ℕ) → n ≤ m → m < n + r → has ws m ≡ true) → looked (n + r) last ws ≡ looked n last ws
+  look-past : (r n last : ℕ) (ws : Words) → AllTaken t ws → ((m : ℕ) → n ≤ m → m < n + r → has ws m ≡ true)
+      → looked (n + r) last ws ≡ looked n last ws
   look-past zero n last ws a h = let e : n + 0 ≡ n = omega arith in rw e
   look-past (suc r) n last ws a h =
       let e : n + suc r ≡ n + 1 + r = omega arith in
@@ -118,7 +116,8 @@ module _ (t : Words) where
           row o false e = let h = leb-false n last e in (sym (first-none t n last h), look-none n last ws h)
           row o true e =
               let h = leb-true n last e in
-              let p = same-past (last + 1) (omega (arith, h)) (λ i b c. none-is (has ws) n last f (omega (arith, o)) q z i b (omega arith)) in
+              let p = same-past (last + 1) (omega (arith, h))
+              (λ i b c. none-is (has ws) n last f (omega (arith, o)) q z i b (omega arith)) in
               (sym (first-none t (last + 1) last (omega arith)) ∙ p.0, look-none (last + 1) last ws (omega arith) ∙ p.1)
 
           of-some : n ≢ 0 → NoneLeft
@@ -126,7 +125,8 @@ module _ (t : Words) where
 
   -- ---- going round
 
-  module _ (a : ℕ) (ws once after : Words) (o : once ≡ marked_once t ws) (q : after ≡ looked (a + 1) (nodes t) once) (n : ℕ) (f : n ≡ first_from t (a + 1) (nodes t)) where
+  module _ (a : ℕ) (ws once after : Words) (o : once ≡ marked_once t ws) (q : after ≡ looked (a + 1) (nodes t) once) (n : ℕ)
+      (f : n ≡ first_from t (a + 1) (nodes t)) where
     first-row : nodes t + 1 - (a + 1) ≡ nodes t - a
     first-row = omega arith
 

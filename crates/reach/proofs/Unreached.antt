@@ -1,8 +1,5 @@
 -- The first unreachable node of a row of numbers, and the first after a node, going round: the rows of marks, of nodes that are reached.
-use mathlib.Core.Path.{◌≡◌}
-use mathlib.Core.Bool.{Bool, true, false}
-use mathlib.Core.Logic.{◌≢◌}
-use Prim.Native.Nat.{ℕ, ◌+◌, ◌-◌, ◌≤◌, ◌<◌}
+use Rattle.std.proofs.Common.{◌≡◌, ℕ, ◌+◌, ◌-◌, ◌<◌, ◌≤◌, Bool, true, false, ◌≢◌}
 use Rattle.model.specs.Table.{Words, nodes}
 use Rattle.model.specs.Reached.{head_or, reached_all}
 use Rattle.model.specs.SoundTest.{elem}

@@ -1,20 +1,16 @@
 -- A search of a copy in which some nodes of a table are missing answers as the table, or is refused with 3.
-use mathlib.Core.Path.{◌≡◌, refl, ap, sym, ◌∙◌}
-use mathlib.Core.Bool.{Bool, true, false, ◌&&◌, ◌||◌, false≢true}
-use mathlib.Core.Logic.{◌≢◌, ◌⊎◌, inl, inr}
-use mathlib.Core.List.{List}
+use Rattle.std.proofs.Common.{◌≡◌, ℕ, zero, suc, ◌+◌, ◌<◌, ◌≤◌, Bool, true, false, ◌&&◌, ◌||◌, eqb, ltb, leb, ◌≢◌, ◌⊎◌, List, length, sym}
+use Rattle.std.proofs.Common.{refl, ap, ◌∙◌, inl, inr, arith, eqb-true, leb-true}
+use mathlib.Core.Bool.{false≢true}
 use mathlib.Core.Option.{Option, none, some}
-use Prim.Native.Nat.{ℕ, zero, suc, ◌+◌, ◌≤◌, ◌<◌}
-use native.Mathlib.Omega.{arith}
-use lib.Dec.{leb, ltb, eqb}
-use lib.ListN.{length}
-use borrow.Author.Tests.{eqb-true, eqb-false, leb-true}
+use borrow.Author.Tests.{eqb-false}
 use Rattle.model.specs.declared.Answer.{Answer}
 use Rattle.model.specs.declared.Answer.TheVariants.{Absent, Refused}
 use Rattle.std.specs.Prelude.{Some, None}
 use Rattle.model.specs.Table.{Words, at, node_start, root_word, in_range, header_ok, no_collection, has_node, node, node_from, spare}
 use Rattle.model.specs.Slots.{Slot, NodeView, View, node_view, view_of, height}
-use Rattle.model.specs.Search.{filter, below, within, moved, route, down, on_level, passes, locate, first_with, kept, first_above, absent_or, next_from, answer_of, answer_in, search_view, search, Next}
+use Rattle.model.specs.Search.{filter, below, within, moved, route, down, on_level, passes, locate, first_with, kept, first_above}
+use Rattle.model.specs.Search.{absent_or, next_from, answer_of, answer_in, search_view, search, Next}
 use Rattle.list_laws.proofs.Tools.{decode}
 use Rattle.view_laws.proofs.NodeViews.{shown-eq}
 use Rattle.table_laws.proofs.Nodes.{node-in, node-out, spare-in}
@@ -58,10 +54,12 @@ module _ (u v : View) (N : u.nodes ≡ v.nodes) (same : (n : ℕ) → OrMissing 
       let p = (simp decode at e) in
       record { here = there l n h p.0; next = λ z. there l (u.node n).sibling h (next z p.1) }
     where
-      next : (u.node n).sibling ≢ 0 → eqb (u.node n).sibling 0 || on_level u l (u.node n).sibling ≡ true → on_level u l (u.node n).sibling ≡ true
+      next : (u.node n).sibling ≢ 0 → eqb (u.node n).sibling 0 || on_level u l (u.node n).sibling ≡ true
+          → on_level u l (u.node n).sibling ≡ true
       next z q = go (eqb (u.node n).sibling 0) refl q
         where
-          go : (b : Bool) → eqb (u.node n).sibling 0 ≡ b → b || on_level u l (u.node n).sibling ≡ true → on_level u l (u.node n).sibling ≡ true
+          go : (b : Bool) → eqb (u.node n).sibling 0 ≡ b → b || on_level u l (u.node n).sibling ≡ true
+              → on_level u l (u.node n).sibling ≡ true
           go true c q = absurd (z (eqb-true (u.node n).sibling 0 c))
           go false c q = q
 
@@ -75,7 +73,12 @@ module _ (u v : View) (N : u.nodes ≡ v.nodes) (same : (n : ℕ) → OrMissing 
       where
         go : (b : Bool) → eqb (u.node n).sibling 0 ≡ b → passes u l n ≡ passes v l n
         go true c = rw (level-same l n a.here, sym sibling, c, passes)
-        go false c = rw (level-same l n a.here, sym sibling, level-same l (u.node n).sibling (a.next (eqb-false (u.node n).sibling 0 c)), passes)
+        go false c = rw (
+          level-same l n a.here,
+          sym sibling,
+          level-same l (u.node n).sibling (a.next (eqb-false (u.node n).sibling 0 c)),
+          passes,
+        )
 
     within-same : (j : ℕ) → within u n j ≡ within v n j
     unfolding below
@@ -87,7 +90,8 @@ module _ (u v : View) (N : u.nodes ≡ v.nodes) (same : (n : ℕ) → OrMissing 
 
     kept-same : kept u n ≡ kept v n
     unfolding kept
-    kept-same = ap (λ (ss : List Slot). filter (λ (s : Slot). within u n s.key) ss) (shown-eq a.here) ∙ (λ i. filter (λ (s : Slot). within-same s.key i) (v.node n).shown)
+    kept-same = ap (λ (ss : List Slot). filter (λ (s : Slot). within u n s.key) ss) (shown-eq a.here)
+        ∙ (λ i. filter (λ (s : Slot). within-same s.key i) (v.node n).shown)
 
     -- what the search stands on
     stood-same : (moved u n k ≡ moved v n k) × (u.node (moved u n k) ≡ v.node (moved u n k))
@@ -130,7 +134,8 @@ module _ (u v : View) (N : u.nodes ≡ v.nodes) (same : (n : ℕ) → OrMissing 
 
           by : Located l (down u (moved u n k) k) → Located (suc l) n
           by (inl q) = inl (rw (e, locate) q)
-          by (inr (m, p, q, r)) = inr (m, rw (e, locate) p, rw (sym (passes-same n a (suc l)) ∙ e, locate) (ap (λ (x : ℕ). locate v l x k) (sym way) ∙ q), r)
+          by (inr (m, p, q, r)) =
+              inr (m, rw (e, locate) p, rw (sym (passes-same n a (suc l)) ∙ e, locate) (ap (λ (x : ℕ). locate v l x k) (sym way) ∙ q), r)
 
   -- ---- the next code up
 
@@ -150,7 +155,8 @@ module _ (u v : View) (N : u.nodes ≡ v.nodes) (same : (n : ℕ) → OrMissing 
   next-same zero n = inl refl
   next-same (suc c) n = go (passes u 0 n) refl (next-same c)
     where
-      go : (b : Bool) → passes u 0 n ≡ b → ((m : ℕ) → SameOr3 (next_from u c m k) (next_from v c m k)) → SameOr3 (next_from u (suc c) n k) (next_from v (suc c) n k)
+      go : (b : Bool) → passes u 0 n ≡ b → ((m : ℕ) → SameOr3 (next_from u c m k) (next_from v c m k))
+          → SameOr3 (next_from u (suc c) n k) (next_from v (suc c) n k)
       go false e ih = inr (rw (e, next_from))
       go true e ih = by (eqb (u.node n).sibling 0) refl
         where
@@ -168,7 +174,8 @@ module _ (u v : View) (N : u.nodes ≡ v.nodes) (same : (n : ℕ) → OrMissing 
               let q' : eqb (v.node n).sibling 0 ≡ false = ap (λ (s : ℕ). eqb s 0) (sym (sibling n a)) ∙ q in
               rw (e, sym (passes-same n a 0) ∙ e, q, q', next_from)
               (to-same _ _ _ (absent-same (first_above k (kept u n)) _ _ (ih (u.node n).sibling))
-              (ap (λ (x : Next). absent_or x (next_from v c (u.node n).sibling k)) first ∙ ap (λ (s : ℕ). absent_or (first_above k (kept v n)) (next_from v c s k)) (sibling n a)))
+              (ap (λ (x : Next). absent_or x (next_from v c (u.node n).sibling k)) first
+              ∙ ap (λ (s : ℕ). absent_or (first_above k (kept v n)) (next_from v c s k)) (sibling n a)))
 
   -- ---- the answer
 
@@ -179,7 +186,8 @@ module _ (u v : View) (N : u.nodes ≡ v.nodes) (same : (n : ℕ) → OrMissing 
   in-leaf : (m : ℕ) → u.node m ≡ v.node m → SameOr3 (answer_in u k (some m)) (answer_in v k (some m))
   in-leaf m e =
       to-same _ _ _ (answer-same (first_with k (u.node m).shown) _ _ (next-same u.nodes m))
-      (ap (λ (ss : List Slot). answer_of (first_with k ss) (next_from v u.nodes m k)) (shown-eq e) ∙ ap (λ (c : ℕ). answer_of (first_with k (v.node m).shown) (next_from v c m k)) N)
+      (ap (λ (ss : List Slot). answer_of (first_with k ss) (next_from v u.nodes m k)) (shown-eq e)
+      ∙ ap (λ (c : ℕ). answer_of (first_with k (v.node m).shown) (next_from v c m k)) N)
 
   at-leaf : (l n : ℕ) → l ≤ 15 → SameOr3 (answer_in u k (locate u l n k)) (answer_in v k (locate v l n k))
   at-leaf l n h = go (located l n h)
@@ -197,7 +205,8 @@ module _ (u v : View) (N : u.nodes ≡ v.nodes) (same : (n : ℕ) → OrMissing 
       go false q = inr (rw (q, search_view))
       go true q =
           rw (q, ap (λ (h : ℕ). leb h 15) (sym top) ∙ q, search_view)
-          (to-same _ _ _ (at-leaf (height u) u.root low) (ap (λ (h : ℕ). answer_in v k (locate v h u.root k)) top ∙ ap (λ (r : ℕ). answer_in v k (locate v (height v) r k)) e))
+          (to-same _ _ _ (at-leaf (height u) u.root low)
+          (ap (λ (h : ℕ). answer_in v k (locate v h u.root k)) top ∙ ap (λ (r : ℕ). answer_in v k (locate v (height v) r k)) e))
         where
           low : height u ≤ 15
           low = leb-true (height u) 15 q
@@ -233,18 +242,27 @@ module _ (t u : Words) (long : length u ≡ length t) (header : (w : ℕ) → w 
       go false e = node-out u m (has-node-same t u m long ∙ e) ∙ sym (node-out t m e)
 
       other : (b : Bool) → has_node t m ≡ b → spare u m ≡ spare t m
-      other true e = spare-in u m (has-node-same t u m long ∙ e) ∙ part-same t u long (w + 4) 4 (λ x a b. h x (omega arith, omega arith)) ∙ sym (spare-in t m e)
+      other true e = spare-in u m (has-node-same t u m long ∙ e)
+          ∙ part-same t u long (w + 4) 4 (λ x a b. h x (omega arith, omega arith)) ∙ sym (spare-in t m e)
       other false e = rw (has-node-same t u m long ∙ e, e, spare)
 
   pub head-same : header_ok u ≡ header_ok t
   unfolding header_ok
-  head-same = rw (long, header 0 (omega arith), header 1 (omega arith), header 2 (omega arith), header 3 (omega arith), part-same t u long 4 4 (λ w a b. header w (omega arith)))
+  head-same = rw (
+    long,
+    header 0 (omega arith),
+    header 1 (omega arith),
+    header 2 (omega arith),
+    header 3 (omega arith),
+    part-same t u long 4 4 (λ w a b. header w (omega arith)),
+  )
 
   pub lack-same : (n : ℕ) → no_collection n u ≡ no_collection n t
   unfolding no_collection
   lack-same n = rw (header 3 (omega arith))
 
-  pub copy-answers : ((m : ℕ) → ((w : ℕ) → OfNode m w → at u w ≡ at t w) ⊎ (15 < (node_view u m).level)) → (n k : ℕ) → (search n u k ≡ search n t k) ⊎ (search n u k ≡ Refused 3)
+  pub copy-answers : ((m : ℕ) → ((w : ℕ) → OfNode m w → at u w ≡ at t w) ⊎ (15 < (node_view u m).level)) → (n k : ℕ)
+      → (search n u k ≡ search n t k) ⊎ (search n u k ≡ Refused 3)
   unfolding search
   copy-answers h n k = go (header_ok t) (no_collection n t) refl refl
     where
@@ -261,4 +279,5 @@ module _ (t u : Words) (long : length u ≡ length t) (header : (w : ℕ) → w 
       go : (a b : Bool) → header_ok t ≡ a → no_collection n t ≡ b → (search n u k ≡ search n t k) ⊎ (search n u k ≡ Refused 3)
       go false b p q = inl (rw (head-same ∙ p, p, search))
       go true true p q = inl (rw (head-same ∙ p, lack-same n ∙ q, p, q, search))
-      go true false p q = rw (head-same ∙ p, lack-same n ∙ q, p, q, search) (copy-search (view_of n u) (view_of n t) (header 2 (omega arith)) nodes-same k (root q))
+      go true false p q = rw (head-same ∙ p, lack-same n ∙ q, p, q, search)
+          (copy-search (view_of n u) (view_of n t) (header 2 (omega arith)) nodes-same k (root q))

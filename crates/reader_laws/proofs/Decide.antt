@@ -1,21 +1,17 @@
 -- What a search by looks answers goes by its looks alone.
-use mathlib.Core.Path.{◌≡◌, refl, ap, ◌∙◌}
-use mathlib.Core.Bool.{Bool, true, false, not, ◌&&◌}
+use Rattle.std.proofs.Common.{◌≡◌, ℕ, zero, suc, ◌<◌, Bool, true, false, not, ◌&&◌, eqb, leb, List, [], ◌∷◌, ◌++◌, length, refl, ap, ◌∙◌}
+use Rattle.std.proofs.Common.{arith, eqb-true}
 use mathlib.Core.List.Memᴰ
-use mathlib.Core.List.{List, [], ◌∷◌, ◌++◌, Memᴰ}
+use mathlib.Core.List.{Memᴰ}
 use mathlib.Core.Option.{Option, none, some}
-use Prim.Native.Nat.{ℕ, zero, suc, ◌<◌}
-use native.Mathlib.Omega.{arith}
-use lib.Dec.{eqb, leb}
-use lib.ListN.{length}
-use borrow.Author.Tests.{eqb-true}
 use Rattle.model.specs.declared.Answer.{Answer}
 use Rattle.model.specs.declared.Answer.TheVariants.{Absent, Refused}
 use Rattle.std.specs.Prelude.{Some, None}
 use Rattle.model.specs.Table.{Words, at, nodes, root_word, header_ok, no_collection, has_node, node, spare}
 use Rattle.model.specs.Slots.{Slot, NodeView, node_view, used, clear_in}
 use Rattle.model.specs.Search.{route, first_with, first_above, absent_or, answer_of, Next}
-use Rattle.model.specs.Looks.{seen_pass, stood, stood_on, seen_kept, next_looks, answer_looks, search_looks, Seen, seen, none_above, no_slot, sibling_seen, next_seen, answer_seen, search_seen, LooksDecide}
+use Rattle.model.specs.Looks.{seen_pass, stood, stood_on, seen_kept, next_looks, answer_looks, search_looks, Seen, seen, none_above}
+use Rattle.model.specs.Looks.{no_slot, sibling_seen, next_seen, answer_seen, search_seen, LooksDecide}
 use Rattle.two_laws.proofs.AcceptedTwo.{there}
 use Rattle.reader_laws.proofs.Copies.{root-low, head-same, lack-same}
 
@@ -24,7 +20,8 @@ use Rattle.reader_laws.proofs.Copies.{root-low, head-same, lack-same}
 abbrev next_turn : (p : Bool) (q : Next) (z : Bool) → Answer → Answer
 next_turn p q z rest = elim p [ true ↦ absent_or q (elim z [ true ↦ Absent None | false ↦ rest ]) | false ↦ Refused 3 ]
 
-next-turn : (p : Bool) (q : Next) (z : Bool) (r s : Answer) → (p && (none_above q && not z) ≡ true → r ≡ s) → next_turn p q z r ≡ next_turn p q z s
+next-turn : (p : Bool) (q : Next) (z : Bool) (r s : Answer) → (p && (none_above q && not z) ≡ true → r ≡ s)
+    → next_turn p q z r ≡ next_turn p q z s
 next-turn true (Some j) z r s h = refl
 next-turn true None true r s h = refl
 next-turn true None false r s h = h refl
@@ -74,9 +71,12 @@ module _ (a b : (i n : ℕ) → NodeView) (none-same : (i : ℕ) → b i 0 ≡ a
       let f : b (suc i) s ≡ y = sibling-same (suc i) s _ h in
       let p = seen_pass N 0 n x y in
       let q = first_above k (seen_kept x y) in
-      ap (λ (u : NodeView). next_turn (seen_pass N 0 n u (b (suc i) u.sibling)) (first_above k (seen_kept u (b (suc i) u.sibling))) (eqb u.sibling 0) (next_looks b N k c (suc i) u.sibling)) e
+      ap (λ (u : NodeView). next_turn (seen_pass N 0 n u (b (suc i) u.sibling)) (first_above k (seen_kept u (b (suc i) u.sibling)))
+      (eqb u.sibling 0) (next_looks b N k c (suc i) u.sibling)) e
       ∙ ap (λ (u : NodeView). next_turn (seen_pass N 0 n x u) (first_above k (seen_kept x u)) (eqb s 0) (next_looks b N k c (suc i) s)) f
-      ∙ next-turn p q (eqb s 0) _ _ (λ g. next-same c (suc i) s f (same-if (p && (none_above q && not (eqb s 0))) (sibling_seen (suc i) s) (next_seen a N k c (suc i) s) g h))
+      ∙ next-turn p q (eqb s 0) _ _
+      (λ g. next-same c (suc i) s f
+      (same-if (p && (none_above q && not (eqb s 0))) (sibling_seen (suc i) s) (next_seen a N k c (suc i) s) g h))
 
   answer-same : (l i n : ℕ) → Same (answer_seen a N k i l n) → answer_looks b N k i l n ≡ answer_looks a N k i l n
   unfolding answer_looks answer_seen
@@ -89,10 +89,13 @@ module _ (a b : (i n : ℕ) → NodeView) (none-same : (i : ℕ) → b i 0 ≡ a
       let p = seen_pass N 0 n x y in
       let o = first_with k (stood x y k).shown in
       let m = stood_on n x y k in
-      ap (λ (u : NodeView). let v = b (suc i) u.sibling in leaf_turn (seen_pass N 0 n u v) (first_with k (stood u v k).shown) (next_looks b N k N (suc (suc i)) (stood_on n u v k))) e
-      ∙ ap (λ (v : NodeView). leaf_turn (seen_pass N 0 n x v) (first_with k (stood x v k).shown) (next_looks b N k N (suc (suc i)) (stood_on n x v k))) f
+      ap (λ (u : NodeView). let v = b (suc i) u.sibling in leaf_turn (seen_pass N 0 n u v) (first_with k (stood u v k).shown)
+      (next_looks b N k N (suc (suc i)) (stood_on n u v k))) e
+      ∙ ap (λ (v : NodeView). leaf_turn (seen_pass N 0 n x v) (first_with k (stood x v k).shown)
+      (next_looks b N k N (suc (suc i)) (stood_on n x v k))) f
       ∙ leaf-turn p o _ _ (λ g.
-      let later = same-if (p && no_slot o) (seen i n ∷ sibling_seen (suc i) s) (seen (suc (suc i)) m ∷ next_seen a N k N (suc (suc i)) m) g h in
+      let later = same-if (p && no_slot o) (seen i n ∷ sibling_seen (suc i) s)
+      (seen (suc (suc i)) m ∷ next_seen a N k N (suc (suc i)) m) g h in
       next-same N (suc (suc i)) m (later (suc (suc i)) m (Memᴰ.head refl)) (λ j r u. later j r (Memᴰ.tail u)))
   answer-same (suc l) i n h =
       let x = a i n in
@@ -102,9 +105,12 @@ module _ (a b : (i n : ℕ) → NodeView) (none-same : (i : ℕ) → b i 0 ≡ a
       let f : b (suc i) s ≡ y = sibling-same (suc i) s _ (λ j m u. h j m (Memᴰ.tail u)) in
       let p = seen_pass N (suc l) n x y in
       let d = route k (stood x y k).left (stood x y k).shown in
-      ap (λ (u : NodeView). let v = b (suc i) u.sibling in level_turn (seen_pass N (suc l) n u v) (answer_looks b N k (suc (suc i)) l (route k (stood u v k).left (stood u v k).shown))) e
-      ∙ ap (λ (v : NodeView). level_turn (seen_pass N (suc l) n x v) (answer_looks b N k (suc (suc i)) l (route k (stood x v k).left (stood x v k).shown))) f
-      ∙ level-turn p _ _ (λ g. answer-same l (suc (suc i)) d (same-if p (seen i n ∷ sibling_seen (suc i) s) (answer_seen a N k (suc (suc i)) l d) g h))
+      ap (λ (u : NodeView). let v = b (suc i) u.sibling in level_turn (seen_pass N (suc l) n u v)
+      (answer_looks b N k (suc (suc i)) l (route k (stood u v k).left (stood u v k).shown))) e
+      ∙ ap (λ (v : NodeView). level_turn (seen_pass N (suc l) n x v)
+      (answer_looks b N k (suc (suc i)) l (route k (stood x v k).left (stood x v k).shown))) f
+      ∙ level-turn p _ _ (λ g. answer-same l (suc (suc i)) d
+      (same-if p (seen i n ∷ sibling_seen (suc i) s) (answer_seen a N k (suc (suc i)) l d) g h))
 
 -- ---- of tables
 
@@ -119,7 +125,8 @@ unfolding answer_seen
 first-seen look N k zero i n = Memᴰ.head refl
 first-seen look N k (suc l) i n = Memᴰ.head refl
 
-module _ (n k : ℕ) (when when' : ℕ → Words) (long : length (when' 0) ≡ length (when 0)) (header : (w : ℕ) → w < 8 → at (when' 0) w ≡ at (when 0) w) where
+module _ (n k : ℕ) (when when' : ℕ → Words) (long : length (when' 0) ≡ length (when 0))
+    (header : (w : ℕ) → w < 8 → at (when' 0) w ≡ at (when 0) w) where
   abbrev look : (i m : ℕ) → NodeView
   look i m = node_view (when i) m
 
@@ -143,7 +150,8 @@ module _ (n k : ℕ) (when when' : ℕ → Words) (long : length (when' 0) ≡ l
   root-seen true = first-seen look N k l 1 r
   root-seen false = Memᴰ.head refl
 
-  made-if : (c : Bool) → c ≡ true → Same look look' (λ i. no-node (when i) (when' i)) N k (made c) → Same look look' (λ i. no-node (when i) (when' i)) N k (answer_seen look N k 1 l r)
+  made-if : (c : Bool) → c ≡ true → Same look look' (λ i. no-node (when i) (when' i)) N k (made c)
+      → Same look look' (λ i. no-node (when i) (when' i)) N k (answer_seen look N k 1 l r)
   made-if true e h = h
   made-if false e h = absurd (let z : ◌≡◌ {A = ℕ} 0 1 = cc in omega arith)
 
@@ -168,4 +176,5 @@ looks-decide n k when when' long header same = go (header_ok (when 0)) (no_colle
     go true true p q = rw (head-same (when 0) (when' 0) long header ∙ p, lack-same (when 0) (when' 0) long header n ∙ q, p, q, search_looks)
     go true false p q =
         rw (head-same (when 0) (when' 0) long header ∙ p, lack-same (when 0) (when' 0) long header n ∙ q, p, q, search_looks)
-        (answered-same n k when when' long header (header (root_word n) (root-low n (there n (when 0) q).0)) (rw (p, q, search_seen) at same))
+        (answered-same n k when when' long header (header (root_word n) (root-low n (there n (when 0) q).0))
+        (rw (p, q, search_seen) at same))

@@ -1,11 +1,6 @@
 -- A level that turns at most once while a call runs: every search that comes to it is right.
-use mathlib.Core.Path.{◌≡◌, refl, sym, ◌∙◌}
-use mathlib.Core.Bool.{Bool, true, false, false≢true}
-use mathlib.Core.Logic.{inl, inr}
-use Prim.Native.Nat.{ℕ, ◌≤◌, ◌<◌}
-use native.Mathlib.Omega.{arith}
-use lib.Dec.{ltb}
-use borrow.Author.Tests.{ltb-true, ltb-false}
+use Rattle.std.proofs.Common.{◌≡◌, ℕ, ◌<◌, ◌≤◌, Bool, true, false, ltb, sym, refl, ◌∙◌, inl, inr, arith, ltb-false, ltb-true}
+use mathlib.Core.Bool.{false≢true}
 use Rattle.model.specs.Slots.{View}
 use Rattle.model.specs.Looks.{seen_pass, seen_within}
 use Rattle.view_laws.proofs.NodeViews.{left-eq, shown-eq}
@@ -22,17 +17,38 @@ use Rattle.reader_laws.proofs.Moments.{first, second, Looked, Right, Arrives}
 
 module _ (w : ℕ → View) (N k l n i j : ℕ) (h : i ≤ j) (p : seen_pass N l n (first w n i) (second w n i j) ≡ true) where
   -- n, as it was at moment x up to j
-  pub looked-here : seen_within (first w n i) (second w n i j) k ≡ true → (x : ℕ) → x ≤ j → ((w i).node n).left ≡ ((w x).node n).left → ((w i).node n).shown ≡ ((w x).node n).shown → Stands (w x) k l n → Looked w N k l n i j
+  pub looked-here : seen_within (first w n i) (second w n i j) k ≡ true → (x : ℕ) → x ≤ j → ((w i).node n).left ≡ ((w x).node n).left
+      → ((w i).node n).shown ≡ ((w x).node n).shown → Stands (w x) k l n → Looked w N k l n i j
   looked-here e x g a b s =
       let q = stood-here (first w n i) (second w n i j) k e in
-      record { passes = p; moment = x; node = n; past = g; stands = s; on = on-here (first w n i) (second w n i j) k n e; left = left-eq q ∙ a; shown = shown-eq q ∙ b }
+      record {
+        passes = p;
+        moment = x;
+        node = n;
+        past = g;
+        stands = s;
+        on = on-here (first w n i) (second w n i j) k n e;
+        left = left-eq q
+            ∙ a;
+        shown = shown-eq q ∙ b;
+      }
 
   -- its sibling
   pub looked-next : seen_within (first w n i) (second w n i j) k ≡ false → (x : ℕ) → x ≤ j
-      → (let m = ((w i).node n).sibling in ((w j).node m).left ≡ ((w x).node m).left → ((w j).node m).shown ≡ ((w x).node m).shown → Stands (w x) k l m → Looked w N k l n i j)
+      → (let m = ((w i).node n).sibling in ((w j).node m).left ≡ ((w x).node m).left → ((w j).node m).shown ≡ ((w x).node m).shown
+      → Stands (w x) k l m → Looked w N k l n i j)
   looked-next e x g a b s =
       let q = stood-next (first w n i) (second w n i j) k e in
-      record { passes = p; moment = x; node = ((w i).node n).sibling; past = g; stands = s; on = on-next (first w n i) (second w n i j) k n e; left = left-eq q ∙ a; shown = shown-eq q ∙ b }
+      record {
+        passes = p;
+        moment = x;
+        node = ((w i).node n).sibling;
+        past = g;
+        stands = s;
+        on = on-next (first w n i) (second w n i j) k n e;
+        left = left-eq q ∙ a;
+        shown = shown-eq q ∙ b;
+      }
 
 -- ---- the history of a level
 
@@ -67,12 +83,15 @@ module _ (w : ℕ → View) (N k : ℕ) (orderly : (i : ℕ) → Orderly (w i)) 
         where
           from : (u : TwoLooks (w i) (w j) N k l n) → StaysOrMoves (w i) (w j) k l n → Looked w N k l n i j
           from u (inl a) = looked-here w N k l n i j h u.passes a.1 i h refl refl a.0
-          from u (inr b) = looked-next w N k l n i j h u.passes b.2 j (omega arith) refl refl (same-stands (w i) (w j) (orderly i) (orderly j) l (y.late i j t h) k ((w i).node n).sibling b.1)
+          from u (inr b) = looked-next w N k l n i j h u.passes b.2 j (omega arith) refl refl
+              (same-stands (w i) (w j) (orderly i) (orderly j) l (y.late i j t h) k ((w i).node n).sibling b.1)
 
       go : (a b : Bool) → ltb i y.turn ≡ a → ltb x y.turn ≡ b → Looked w N k l n i j
-      go true b p q = let t = ltb-true i y.turn p in before (same-stands (w x) (w i) (orderly x) (orderly i) l (y.early x i g t) k n (f (omega arith)))
+      go true b p q = let t =
+          ltb-true i y.turn p in before (same-stands (w x) (w i) (orderly x) (orderly i) l (y.early x i g t) k n (f (omega arith)))
       go false true p q = let t = ltb-false i y.turn p in let r = ltb-true x y.turn q in after t (y.crosses x i k n r t (f r))
-      go false false p q = let t = ltb-false i y.turn p in after t (same-comes (w x) (w i) (orderly x) (orderly i) l (y.late x i (ltb-false x y.turn q) g) k n c)
+      go false false p q = let t =
+          ltb-false i y.turn p in after t (same-comes (w x) (w i) (orderly x) (orderly i) l (y.late x i (ltb-false x y.turn q) g) k n c)
 
   pub history-arrives : Arrives w N k l
   history-arrives x n c f = arrive x n c (λ h. f (y.straight x h))

@@ -1,13 +1,8 @@
--- Request 10: a search whose looks fall between the orders of one accepted call, on a table that was settled, answers as before it or as after it.
-use mathlib.Core.Path.{◌≡◌, refl, ap, sym, ◌∙◌}
-use mathlib.Core.Bool.{Bool, true, false}
-use mathlib.Core.List.{List}
-use mathlib.Core.Logic.{◌⊎◌, inl, inr, ⊎_map}
+-- Request 10: a search whose looks fall between the orders of one accepted call, on a table that was settled, answers as before it or as
+-- after it.
+use Rattle.std.proofs.Common.{◌≡◌, ℕ, suc, Bool, true, false, eqb, ◌⊎◌, List, length, take, sym, refl, ap, ◌∙◌, inl, inr, arith}
+use mathlib.Core.Logic.{⊎_map}
 use mathlib.Core.Option.{Option, none, some, map}
-use Prim.Native.Nat.{ℕ, suc}
-use native.Mathlib.Omega.{arith}
-use lib.Dec.{eqb}
-use lib.ListN.{length, take}
 use lib.Seq.{take-length}
 use Rattle.model.specs.declared.Answer.{Answer}
 use Rattle.model.specs.declared.Answer.TheVariants.{Refused}
@@ -42,12 +37,15 @@ use Rattle.reader_laws.proofs.Skips.{skip-arrives, skip-leaves}
 use Rattle.reader_laws.proofs.StoresHistory.{stores-history, stores-skip}
 
 -- the stores among the first c orders carried out
-carried : (os : List Order) (ss : List Store) (t : Words) → stores_in os ≡ ss → (c : ℕ) → carry (take c os) t ≡ apply (take (store_count (take c os)) ss) t
-carried os ss t e c = carry-stores (take c os) t ∙ ap (λ (x : List Store). apply x t) (stores_in-take c os ∙ ap (take (store_count (take c os))) e)
+carried : (os : List Order) (ss : List Store) (t : Words) → stores_in os ≡ ss → (c : ℕ) → carry (take c os) t
+    ≡ apply (take (store_count (take c os)) ss) t
+carried os ss t e c =
+    carry-stores (take c os) t ∙ ap (λ (x : List Store). apply x t) (stores_in-take c os ∙ ap (take (store_count (take c os))) e)
 
 -- ---- stores of which each first part leaves a sound table with collection n, each level having its way
 
-module _ (n : ℕ) (t : Words) (ss : List Store) (s : (j : ℕ) → sound (apply (take j ss) t) ≡ true) (c : (j : ℕ) → no_collection n (apply (take j ss) t) ≡ false)
+module _ (n : ℕ) (t : Words) (ss : List Store) (s : (j : ℕ) → sound (apply (take j ss) t) ≡ true)
+    (c : (j : ℕ) → no_collection n (apply (take j ss) t) ≡ false)
     (ways : (l : ℕ) → Way (tree_at (root_word n)) l t ss) where
   abbrev w : ℕ → View
   w j = view_of n (apply (take j ss) t)
@@ -84,9 +82,11 @@ module _ (n : ℕ) (t : Words) (ss : List Store) (s : (j : ℕ) → sound (apply
     stores i = store_count (take (moment i) os)
 
     -- The answer, but for the neighbour, is even the search of one moment.
-    pub readers-moment : (k : ℕ) → (y : ℕ) × (without_next (search_looks n (during os t moment) k) ≡ without_next (search n (apply (take y ss) t) k))
+    pub readers-moment :
+        (k : ℕ) → (y : ℕ) × (without_next (search_looks n (during os t moment) k) ≡ without_next (search n (apply (take y ss) t) k))
     readers-moment k =
-        let a = search-moments n (λ (j : ℕ). apply (take j ss) t) N k s c same-nodes (arrives k) leaves stores (λ i. store_count-take-le (moment i) (moment (suc i)) os (f i)) in
+        let a = search-moments n (λ (j : ℕ). apply (take j ss) t) N k s c same-nodes (arrives k) leaves stores
+        (λ i. store_count-take-le (moment i) (moment (suc i)) os (f i)) in
         (a.0, (λ i. without_next (search_looks n (λ (j : ℕ). carried os ss t e (moment j) i) k)) ∙ a.1)
 
 -- ---- an accepted call
@@ -141,17 +141,20 @@ module _ (x : Call) (words dock : ℕ) (t : Words) (h : settled t ≡ true) (ok 
   part-search n k j = go (steps.part-map j)
     where
       go : OldOrNew x t (part j) → (search n (part j) k ≡ search n t k) ⊎ (search n (part j) k ≡ search n (table_after x words dock t) k)
-      go (inl e) = inl (searched n (part j) k (steps.part-sound j) ∙ ap (λ (m : Maps). answer_from k (list_in n m)) e ∙ sym (searched n t k accepted.sound))
+      go (inl e) = inl (searched n (part j) k (steps.part-sound j) ∙ ap (λ (m : Maps). answer_from k (list_in n m)) e
+          ∙ sym (searched n t k accepted.sound))
       go (inr e) =
           let whole : sound (apply ss t) ≡ true = rw take-length at (steps.part-sound (length ss)) in
-          inr (searched n (part j) k (steps.part-sound j) ∙ ap (λ (m : Maps). answer_from k (list_in n m)) (e ∙ sym steps.all-map) ∙ sym (searched n (apply ss t) k whole) ∙ ap (λ (u : Words). search n u k) (sym after))
+          inr (searched n (part j) k (steps.part-sound j) ∙ ap (λ (m : Maps). answer_from k (list_in n m)) (e ∙ sym steps.all-map)
+          ∙ sym (searched n (apply ss t) k whole) ∙ ap (λ (u : Words). search n u k) (sym after))
 
   abbrev os : List Order
   os = orders_of x dock t
 
   -- ---- a collection that is not there
 
-  looks-lack : (n : ℕ) (when : ℕ → Words) (k : ℕ) → header_ok (when 0) ≡ true → no_collection n (when 0) ≡ true → search_looks n when k ≡ Refused 17
+  looks-lack : (n : ℕ) (when : ℕ → Words) (k : ℕ) → header_ok (when 0) ≡ true → no_collection n (when 0) ≡ true
+      → search_looks n when k ≡ Refused 17
   unfolding search_looks
   looks-lack n when k e q = rw (e, q, search_looks)
 
@@ -159,7 +162,8 @@ module _ (x : Call) (words dock : ℕ) (t : Words) (h : settled t ≡ true) (ok 
   lack-answers n k moment q =
       let j = store_count (take (moment 0) os) in
       let e : carry (take (moment 0) os) t ≡ part j = carried os ss t (list-stores dock ss) (moment 0) in
-      looks-lack n (during os t moment) k (ap header_ok e ∙ sound-head (part j) (steps.part-sound j)) (ap (no_collection n) e ∙ same-lack n j ∙ q)
+      looks-lack n (during os t moment) k (ap header_ok e ∙ sound-head (part j) (steps.part-sound j))
+      (ap (no_collection n) e ∙ same-lack n j ∙ q)
       ∙ sym (searched n t k accepted.sound ∙ ap (answer_from k) (list-lacking n t q))
 
   -- ---- any collection
@@ -167,16 +171,19 @@ module _ (x : Call) (words dock : ℕ) (t : Words) (h : settled t ≡ true) (ok 
   abbrev BeforeOrAfter : (n k : ℕ) → Answer → Type 0
   BeforeOrAfter n k answer = (answer ≡ without_next (search n t k)) ⊎ (answer ≡ without_next (search n (table_after x words dock t) k))
 
-  call-readers : (n k : ℕ) (moment : ℕ → ℕ) → Forward moment → BeforeOrAfter n k (without_next (search_looks n (during (orders_of x dock t) t moment) k))
+  call-readers : (n k : ℕ) (moment : ℕ → ℕ) → Forward moment
+      → BeforeOrAfter n k (without_next (search_looks n (during (orders_of x dock t) t moment) k))
   call-readers n k moment f = go (no_collection n t) refl
     where
-      at-moment : (y : ℕ) × (without_next (search_looks n (during os t moment) k) ≡ without_next (search n (part y) k)) → BeforeOrAfter n k (without_next (search_looks n (during os t moment) k))
+      at-moment : (y : ℕ) × (without_next (search_looks n (during os t moment) k) ≡ without_next (search n (part y) k))
+          → BeforeOrAfter n k (without_next (search_looks n (during os t moment) k))
       at-moment (y, e) = ⊎_map (λ q. e ∙ ap without_next q) (λ q. e ∙ ap without_next q) (part-search n k y)
 
       go : (b : Bool) → no_collection n t ≡ b → BeforeOrAfter n k (without_next (search_looks n (during os t moment) k))
       go true q = inl (ap without_next (lack-answers n k moment q))
       go false q =
-          at-moment (readers-moment n t ss steps.part-sound (λ j. same-lack n j ∙ q) (call-ways t h x accepted.collection accepted.allows (root_word n) (there n t q).1) os (list-stores dock ss) moment f k)
+          at-moment (readers-moment n t ss steps.part-sound (λ j. same-lack n j ∙ q)
+          (call-ways t h x accepted.collection accepted.allows (root_word n) (there n t q).1) os (list-stores dock ss) moment f k)
 
 -- Request 10.
 pub readers : Readers

@@ -1,12 +1,7 @@
--- Words that do come back, computed: in a repair, in a fresh node before it is linked, and in a shift in that stores the new pointer too early.
-use mathlib.Core.Path.{◌≡◌, refl}
-use mathlib.Core.Bool.{true, false}
-use mathlib.Core.Logic.{inr}
-use mathlib.Core.List.{List, [], ◌∷◌, ◌++◌, map}
+-- Words that do come back, computed: in a repair, in a fresh node before it is linked, and in a shift in that stores the new pointer too
+-- early.
+use Rattle.std.proofs.Common.{◌≡◌, ℕ, suc, true, false, List, [], ◌∷◌, ◌++◌, map, length, take, drop, refl, inr, arith}
 use mathlib.Core.Option.{some}
-use Prim.Native.Nat.{ℕ, suc}
-use native.Mathlib.Omega.{arith}
-use lib.ListN.{length, take, drop}
 use Rattle.model.specs.Table.{Words, at}
 use Rattle.model.specs.Slots.{Slot, node_view}
 use Rattle.model.specs.Reached.{reached_all}
@@ -39,7 +34,8 @@ nine = insertion 1 315 9 0
 -- a shift in that shows the new pointer at once, under the key that is there, then hides it and stores the key
 abbrev early : (left : ℕ) → List Slot → (p k x : ℕ) → List SlotStore
 early left ss p k x =
-    pointer_to (suc (length ss)) 0 ∷ (move_up p (drop p ss) ++ (pointer_to p x ∷ pointer_to p (last_pointer left (take p ss)) ∷ key_to p k ∷ pointer_to p x ∷ []))
+    pointer_to (suc (length ss)) 0
+    ∷ (move_up p (drop p ss) ++ (pointer_to p x ∷ pointer_to p (last_pointer left (take p ss)) ∷ key_to p k ∷ pointer_to p x ∷ []))
 
 abbrev early_at : Words → (n k x : ℕ) → List Store
 early_at t n k x = let ss = (node_view t n).shown in map (in_node n) (early (node_view t n).left ss (place_of k ss) k x)

@@ -1,12 +1,7 @@
--- At every moment of an accepted call all searches answer as before it, or all as after it; and on a settled table no word comes back to a value
+-- At every moment of an accepted call all searches answer as before it, or all as after it; and on a settled table no word comes back to a
+-- value
 -- that it lost.
-use mathlib.Core.Path.{◌≡◌, sym, ap, subst, ◌∙◌}
-use mathlib.Core.Bool.{true, false}
-use mathlib.Core.Logic.{◌⊎◌, inl, inr}
-use mathlib.Core.List.{List, []}
-use Prim.Native.Nat.{ℕ, ◌+◌, ◌*◌, ◌≤◌, ◌<◌}
-use native.Mathlib.Omega.{arith}
-use lib.ListN.{length, take}
+use Rattle.std.proofs.Common.{◌≡◌, ℕ, ◌+◌, ◌*◌, ◌<◌, ◌≤◌, true, false, ◌⊎◌, List, [], length, take, sym, ap, ◌∙◌, subst, inl, inr, arith}
 use Rattle.model.specs.Table.{Words, at, nodes, node_start}
 use Rattle.model.specs.Slots.{view_of}
 use Rattle.model.specs.Search.{search}
@@ -16,7 +11,8 @@ use Rattle.model.specs.SoundTest.{settled, sound}
 use Rattle.model.specs.Orders.{Store, apply, store_count}
 use Rattle.model.specs.Judge.{OldOrNew}
 use Rattle.model.specs.Ledger.{list_in, answer_from}
-use Rattle.model.specs.Writes.{Call, insertion, deletion, class_change, repair, repaired, insert_stores, delete_stores, class_stores, set_class_at, stores_of}
+use Rattle.model.specs.Writes.{Call, insertion, deletion, class_change, repair, repaired, insert_stores, delete_stores, class_stores}
+use Rattle.model.specs.Writes.{set_class_at, stores_of}
 use Rattle.model.specs.Refusals.{seventeen_in, refusal, orders_of, table_after}
 use Rattle.model.specs.Returns.{table_at, MomentRight, InSight, NoReturn}
 use Rattle.list_laws.proofs.Members.{each-mem, elem-iff}
@@ -40,10 +36,13 @@ use Rattle.reader_laws.proofs.Sights.{Sight, AllSteady, whole-steady, never-back
 use Rattle.reader_laws.proofs.RootSteady.{insert-steady}
 
 -- the table at a moment has the stores among the first orders carried out
-moment : (x : Call) (dock : ℕ) (t : Words) (a : ℕ) → table_at x dock t a ≡ apply (take (store_count (take a (orders_of x dock t))) (stores_of x t)) t
+moment : (x : Call) (dock : ℕ) (t : Words) (a : ℕ) → table_at x dock t a
+    ≡ apply (take (store_count (take a (orders_of x dock t))) (stores_of x t)) t
 moment x dock t a =
     let os = orders_of x dock t in
-    carry-stores (take a os) t ∙ ap (λ (ss : List Store). apply ss t) (stores_in-take a os ∙ ap (take (store_count (take a os))) (list-stores dock (stores_of x t)))
+    carry-stores (take a os) t
+    ∙ ap (λ (ss : List Store). apply ss t)
+    (stores_in-take a os ∙ ap (take (store_count (take a os))) (list-stores dock (stores_of x t)))
 
 -- ---- what all searches answer at a moment
 
@@ -62,7 +61,9 @@ module _ (x : Call) (words dock : ℕ) (t : Words) (ok : refusal x words dock t 
   by-maps : (n k : ℕ) (u v : Words) → sound u ≡ true → sound v ≡ true → maps_of u ≡ maps_of v → search n u k ≡ search n v k
   by-maps n k u v s s' e = searched n u k s ∙ ap (λ (m : Maps). answer_from k (list_in n m)) e ∙ sym (searched n v k s')
 
-  part-right : (j : ℕ) → let u = apply (take j (stores_of x t)) t in ((n k : ℕ) → search n u k ≡ search n t k) ⊎ ((n k : ℕ) → search n u k ≡ search n (table_after x words dock t) k)
+  part-right : (j : ℕ) → let u =
+      apply (take j (stores_of x t)) t in ((n k : ℕ) → search n u k ≡ search n t k)
+      ⊎ ((n k : ℕ) → search n u k ≡ search n (table_after x words dock t) k)
   part-right j = go (steps.part-map j)
     where
       u : Words
@@ -70,9 +71,11 @@ module _ (x : Call) (words dock : ℕ) (t : Words) (ok : refusal x words dock t 
 
       go : OldOrNew x t u → ((n k : ℕ) → search n u k ≡ search n t k) ⊎ ((n k : ℕ) → search n u k ≡ search n (table_after x words dock t) k)
       go (inl e) = inl (λ n k. by-maps n k u t (steps.part-sound j) accepted.sound e)
-      go (inr e) = inr (λ n k. by-maps n k u (apply (stores_of x t) t) (steps.part-sound j) (sound-after x words dock t ok) (e ∙ sym steps.all-map) ∙ ap (λ (v : Words). search n v k) (sym after))
+      go (inr e) = inr (λ n k. by-maps n k u (apply (stores_of x t) t) (steps.part-sound j) (sound-after x words dock t ok)
+          (e ∙ sym steps.all-map) ∙ ap (λ (v : Words). search n v k) (sym after))
 
-  right : (b : ℕ) → ((n k : ℕ) → search n (table_at x dock t b) k ≡ search n t k) ⊎ ((n k : ℕ) → search n (table_at x dock t b) k ≡ search n (table_after x words dock t) k)
+  right : (b : ℕ) → ((n k : ℕ) → search n (table_at x dock t b) k ≡ search n t k)
+      ⊎ ((n k : ℕ) → search n (table_at x dock t b) k ≡ search n (table_after x words dock t) k)
   right b = rw (moment x dock t b) (part-right (store_count (take b (orders_of x dock t))))
 
 -- Leftovers and repairs included.
@@ -107,11 +110,20 @@ module _ (t : Words) (s : sound t ≡ true) where
   sight-long : (w : ℕ) → Sight t w → w < length t
   unfolding node_start
   sight-long w (inl l) = omega (arith, long)
-  sight-long w (inr (c, m, h, i, o)) = omega (arith, long, o.1, each-mem (UpTo (nodes t)) (reached-numbers (view_of c t) (collection-orderly c t s h)) i)
+  sight-long w (inr (c, m, h, i, o)) =
+      omega (arith, long, o.1, each-mem (UpTo (nodes t)) (reached-numbers (view_of c t) (collection-orderly c t s h)) i)
 
   sight : (w : ℕ) → InSight t w → Sight t w
   sight w (inl l) = inl l
-  sight w (inr (c, m, h, i, o)) = inr (c, m, h, (elem-iff m (reached (view_of c t))).0 ((reached-same (view_of c t) (sound-orderly (view_of c t) (collection-sound c t s h)) m).0 i), o)
+  sight w (inr (c, m, h, i, o)) =
+      inr (
+        c,
+        m,
+        h,
+        (elem-iff m (reached (view_of c t))).0
+            ((reached-same (view_of c t) (sound-orderly (view_of c t) (collection-sound c t s h)) m).0 i),
+        o,
+      )
 
 tested : (t : Words) → Settled t → settled t ≡ true
 tested t h = (settled-same t).1 h
@@ -130,6 +142,7 @@ no-return x words dock t h ok z a b c w g i j seen e =
     let l : w < length t = rw (length-apply (take (p z) ss) t) at (sight-long u s w there) in
     let le : (d f : ℕ) → d ≤ f → p d ≤ p f = λ d f q. store_count-take-le d f os q in
     ap (λ (v : Words). at v w) (m b)
-    ∙ never-back t ss (call-steady t (tested t h) x y.collection y.allows) (p z) (p a) (p b) (p c) w (le z a g) (le a b i) (le b c j) l there
+    ∙ never-back t ss (call-steady t (tested t h) x y.collection y.allows) (p z) (p a) (p b) (p c) w (le z a g)
+    (le a b i) (le b c j) l there
     (sym (ap (λ (v : Words). at v w) (m a)) ∙ e ∙ ap (λ (v : Words). at v w) (m c))
     ∙ sym (ap (λ (v : Words). at v w) (m a))

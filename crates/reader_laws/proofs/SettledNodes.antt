@@ -1,12 +1,7 @@
 -- The nodes of a collection of a settled table that a write stores to: where they lie, and that shifts in them are steady.
-use mathlib.Core.Path.{◌≡◌, refl, ap, ◌∙◌}
-use mathlib.Core.Bool.{Bool, true, false}
-use mathlib.Core.Logic.{◌≢◌, ◌⊎◌, inl, inr}
-use mathlib.Core.List.{List, [], ◌∷◌, ◌++◌, Memᴰ}
-use Prim.Native.Nat.{ℕ, suc, ◌+◌, ◌≤◌, ◌<◌}
-use native.Mathlib.Omega.{arith}
-use lib.ListN.{length}
-use borrow.Author.Tests.{ltb-true}
+use Rattle.std.proofs.Common.{◌≡◌, ℕ, suc, ◌+◌, ◌<◌, ◌≤◌, Bool, true, false, ◌≢◌, ◌⊎◌, List, [], ◌∷◌, ◌++◌, length, refl, ap, ◌∙◌, inl, inr}
+use Rattle.std.proofs.Common.{arith, ltb-true}
+use mathlib.Core.List.{Memᴰ}
 use Rattle.model.specs.Table.{Words, at, node_start, root_word, no_collection}
 use Rattle.model.specs.Slots.{node_view, view, view_of, height}
 use Rattle.model.specs.Reached.{reached, map_of}
@@ -32,7 +27,9 @@ use Rattle.reader_laws.proofs.ShiftValues.{shift-out-steady, none-put, one-put}
 
 -- ---- the stores of a shift go to the node's slots
 
-pub shift-out-into : (t : Words) (x k : ℕ) → length (node_view t x).shown ≤ 11 → place_of k (node_view t x).shown < length (node_view t x).shown → Each (Into (node_start x + 8) 24) (shift_out_at t x k)
+pub shift-out-into :
+    (t : Words) (x k : ℕ) → length (node_view t x).shown ≤ 11 → place_of k (node_view t x).shown < length (node_view t x).shown
+    → Each (Into (node_start x + 8) 24) (shift_out_at t x k)
 unfolding shift_out_at
 shift-out-into t x k few l =
     let ss = (node_view t x).shown in
@@ -43,7 +40,8 @@ shift-out-into t x k few l =
 
 module _ (n : ℕ) (t : Words) (h : no_collection n t ≡ false) (s : settled t ≡ true) where
   pub own-fine : Fine (root_word n) (taken (beside n t h s).0 t) t nothing
-  own-fine = tree-fine (root_word n) (beside n t h s).0 t (arr-low (root_word n) (beside n t h s).0 t (beside n t h s).1) nothing (tree n t h s)
+  own-fine = tree-fine (root_word n) (beside n t h s).0 t
+      (arr-low (root_word n) (beside n t h s).0 t (beside n t h s).1) nothing (tree n t h s)
 
   pub reached-some : (m : ℕ) → Memᴰ m (reached (view_of n t)) → 1 ≤ m
   reached-some m i = (own-other (root_word n) (beside n t h s).0 t nothing (tree n t h s) m i).some
@@ -110,23 +108,31 @@ module _ (n : ℕ) (t : Words) (h : no_collection n t ≡ false) (s : settled t 
       where
         go : (link ≡ w) ⊎ (link ≢ w) → Steady (at t₁ w) (values_to w (shift_out_at t₁ p fence ++ (put link (node_view t₁ x).sibling ∷ [])))
         go (inl q) =
-            steady-after w (shift_out_at t₁ p fence) (put link (node_view t₁ x).sibling ∷ []) t₁ (parent-none w (λ i j. unfold node_start in omega arith))
+            steady-after w (shift_out_at t₁ p fence) (put link (node_view t₁ x).sibling ∷ []) t₁
+            (parent-none w (λ i j. unfold node_start in omega arith))
             (rw (one-put w (node_view t₁ x).sibling link q) (steady-one _ (node_view t₁ x).sibling))
-        go (inr z) = steady-then w (at t₁ w) (shift_out_at t₁ p fence) (put link (node_view t₁ x).sibling ∷ []) (none-put w (node_view t₁ x).sibling link z) (parent-steady w)
+        go (inr z) = steady-then w (at t₁ w) (shift_out_at t₁ p fence) (put link (node_view t₁ x).sibling ∷ [])
+            (none-put w (node_view t₁ x).sibling link z) (parent-steady w)
 
     -- nothing of it goes to the leaf's slots
     free-none : (w : ℕ) → node_start x + 8 ≤ w → w < node_start x + 8 + 24 → values_to w (free_stores t₁ p x) ≡ []
     unfolding free_stores
     free-none w i j =
         values-append w (shift_out_at t₁ p fence) (put link (node_view t₁ x).sibling ∷ [])
-        ∙ rw (parent-none w (λ a b. not-same (unfold node_start in omega (arith, p-some, reached-some n t h s x x-reached))), none-put w (node_view t₁ x).sibling link (λ q. unfold node_start in omega arith))
+        ∙ rw (
+          parent-none w (λ a b. not-same (unfold node_start in omega (arith, p-some, reached-some n t h s x x-reached))),
+          none-put w (node_view t₁ x).sibling link (λ q. unfold node_start in omega arith),
+        )
 
     both-steady : (w : ℕ) → Steady (at t w) (values_to w (out ++ free_stores t₁ p x))
     both-steady w = go (inside-or-not (node_start x + 8) 24 w)
       where
-        go : ((node_start x + 8 ≤ w) × (w < node_start x + 8 + 24)) ⊎ (node_start x + 8 ≤ w → w < node_start x + 8 + 24 → ⊥) → Steady (at t w) (values_to w (out ++ free_stores t₁ p x))
+        go : ((node_start x + 8 ≤ w) × (w < node_start x + 8 + 24)) ⊎ (node_start x + 8 ≤ w → w < node_start x + 8 + 24 → ⊥)
+            → Steady (at t w) (values_to w (out ++ free_stores t₁ p x))
         go (inl i) = steady-then w (at t w) out (free_stores t₁ p x) (free-none w i.0 i.1) (leaf-steady w)
-        go (inr z) = steady-after w out (free_stores t₁ p x) t (into-none (node_start x + 8) 24 w out (shift-out-into t x k (reached-few n t h s x x-reached) (key-place n t h s k has)) z) (free-steady w)
+        go (inr z) = steady-after w out (free_stores t₁ p x) t
+            (into-none (node_start x + 8) 24 w out (shift-out-into t x k (reached-few n t h s x x-reached) (key-place n t h s k has)) z)
+            (free-steady w)
 
   -- Deletion: every word of the table is steady.
   pub delete-steady : (w : ℕ) → Steady (at t w) (values_to w (delete_settled n t k))

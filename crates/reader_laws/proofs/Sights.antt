@@ -1,14 +1,8 @@
 -- A list of stores in which, from each moment on, every word of the header or of a node that is reached then is steady. Such lists join.
-use mathlib.Core.Path.{◌≡◌, refl, sym, ap, subst, ◌∙◌}
-use mathlib.Core.Bool.{Bool, true, false}
-use mathlib.Core.Logic.{◌⊎◌}
-use mathlib.Core.List.{List, ◌++◌, Memᴰ}
-use Prim.Native.Nat.{ℕ, ◌+◌, ◌-◌, ◌≤◌, ◌<◌}
-use native.Mathlib.Omega.{arith}
-use lib.Dec.{ltb}
-use lib.ListN.{length, take, drop}
-use lib.Seq.{take-append-le, take-append-add, drop-append-add, take-add, drop-drop}
-use borrow.Author.Tests.{ltb-true, ltb-false}
+use Rattle.std.proofs.Common.{◌≡◌, ℕ, ◌+◌, ◌-◌, ◌<◌, ◌≤◌, Bool, true, false, ltb, ◌⊎◌, List, ◌++◌, length, take, drop, sym, refl, ap, ◌∙◌}
+use Rattle.std.proofs.Common.{subst, arith, drop-drop, take-add, ltb-false, ltb-true}
+use mathlib.Core.List.{Memᴰ}
+use lib.Seq.{take-append-le, take-append-add, drop-append-add}
 use Rattle.model.specs.Table.{Words, at, no_collection}
 use Rattle.model.specs.Slots.{view_of}
 use Rattle.model.specs.Reached.{reached}
@@ -41,7 +35,8 @@ module _ (t : Words) (ss us : List Store) where
   part-late : (a : ℕ) → apply (take (length ss + a) (ss ++ us)) t ≡ apply (take a us) (apply ss t)
   part-late a = ap (λ (x : List Store). apply x t) (take-append-add ss us a) ∙ apply-append ss (take a us) t
 
-  pub steady-append : ((a w : ℕ) → a < length ss → w < length t → Sight (apply (take a ss) t) w → SteadyFrom t (ss ++ us) a w) → AllSteady (apply ss t) us → AllSteady t (ss ++ us)
+  pub steady-append : ((a w : ℕ) → a < length ss → w < length t → Sight (apply (take a ss) t) w → SteadyFrom t (ss ++ us) a w)
+      → AllSteady (apply ss t) us → AllSteady t (ss ++ us)
   unfolding AllSteady
   steady-append f g a w l i = go (ltb a (length ss)) refl
     where
@@ -67,17 +62,22 @@ module _ (t : Words) (ss us : List Store) where
 from-moment : (t : Words) (ss : List Store) (z d : ℕ) → z ≤ d → apply (take d ss) t ≡ apply (take (d - z) (drop z ss)) (apply (take z ss) t)
 from-moment t ss z d g =
     let q : z + (d - z) ≡ d = omega arith in
-    ap (λ (x : ℕ). apply (take x ss) t) (sym q) ∙ ap (λ (x : List Store). apply x t) (take-add z (d - z) ss) ∙ apply-append (take z ss) (take (d - z) (drop z ss)) t
+    ap (λ (x : ℕ). apply (take x ss) t) (sym q) ∙ ap (λ (x : List Store). apply x t) (take-add z (d - z) ss)
+    ∙ apply-append (take z ss) (take (d - z) (drop z ss)) t
 
 -- a word that is in sight at moment z is steady from each later one on
-later-steady : (t : Words) (ss : List Store) → AllSteady t ss → (z a w : ℕ) → z ≤ a → w < length t → Sight (apply (take z ss) t) w → SteadyFrom t ss a w
+later-steady : (t : Words) (ss : List Store) → AllSteady t ss → (z a w : ℕ) → z ≤ a → w < length t
+    → Sight (apply (take z ss) t) w → SteadyFrom t ss a w
 unfolding AllSteady
 later-steady t ss h z a w g l s =
     let q : z + (a - z) ≡ a = omega arith in
-    rw (from-moment t ss z a g, ap (λ (x : ℕ). drop x ss) (sym q) ∙ sym (drop-drop (a - z) z ss)) (steady-drop (a - z) w (drop z ss) (apply (take z ss) t) (rw (length-apply (take z ss) t) l) (h z w l s))
+    rw (from-moment t ss z a g, ap (λ (x : ℕ). drop x ss) (sym q) ∙ sym (drop-drop (a - z) z ss))
+    (steady-drop (a - z) w (drop z ss) (apply (take z ss) t) (rw (length-apply (take z ss) t) l) (h z w l s))
 
-pub never-back : (t : Words) (ss : List Store) → AllSteady t ss → (z a b c w : ℕ) → z ≤ a → a ≤ b → b ≤ c → w < length t → Sight (apply (take z ss) t) w
+pub never-back : (t : Words) (ss : List Store) → AllSteady t ss → (z a b c w : ℕ) → z ≤ a → a ≤ b → b ≤ c → w < length t
+    → Sight (apply (take z ss) t) w
     → at (apply (take a ss) t) w ≡ at (apply (take c ss) t) w → at (apply (take b ss) t) w ≡ at (apply (take a ss) t) w
 never-back t ss h z a b c w g i j l s e =
     ap (λ (x : Words). at x w) (from-moment t ss a b i)
-    ∙ steady-back w (drop a ss) (b - a) (c - a) (apply (take a ss) t) (rw (length-apply (take a ss) t) l) (later-steady t ss h z a w g l s) (omega arith) (e ∙ ap (λ (x : Words). at x w) (from-moment t ss a c (omega arith)))
+    ∙ steady-back w (drop a ss) (b - a) (c - a) (apply (take a ss) t) (rw (length-apply (take a ss) t) l) (later-steady t ss h z a w g l s)
+    (omega arith) (e ∙ ap (λ (x : Words). at x w) (from-moment t ss a c (omega arith)))

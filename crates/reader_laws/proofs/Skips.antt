@@ -1,11 +1,8 @@
 -- A node passed over by its left neighbour, as a freed leaf is: a search that comes to its level is right, also one that stands on it.
-use mathlib.Core.Path.{◌≡◌, refl, ap, sym, ◌∙◌}
-use mathlib.Core.Bool.{Bool, true, false, false≢true, ◌&&◌, ◌||◌}
-use mathlib.Core.Logic.{◌≢◌, ◌⊎◌, inl, inr}
-use Prim.Native.Nat.{ℕ, ◌≤◌, ◌<◌}
-use native.Mathlib.Omega.{arith}
-use lib.Dec.{eqb, ltb, leb}
-use borrow.Author.Tests.{ltb-true, ltb-false, eqb-true, eqb-false, leb-true, leb-false, lt-ltb}
+use Rattle.std.proofs.Common.{◌≡◌, ℕ, ◌<◌, ◌≤◌, Bool, true, false, ◌&&◌, ◌||◌, eqb, ltb, leb, ◌≢◌, ◌⊎◌, sym, refl, ap, ◌∙◌, inl, inr, arith}
+use Rattle.std.proofs.Common.{ltb-false, ltb-true, lt-ltb, eqb-true, leb-false, leb-true}
+use mathlib.Core.Bool.{false≢true}
+use borrow.Author.Tests.{eqb-false}
 use Rattle.model.specs.Table.{in_range}
 use Rattle.model.specs.Slots.{NodeView, View}
 use Rattle.model.specs.Search.{below, within, on_level}
@@ -18,7 +15,8 @@ use Rattle.tree_laws.proofs.Levels.{Orderly}
 use Rattle.tree_laws.proofs.Cover.{stays, moves, below-true}
 use Rattle.tree_laws.proofs.SearchLaw.{Stands}
 use Rattle.step_laws.proofs.Standing.{stands}
-use Rattle.step_laws.proofs.Rowwise.{OnRow, Same, Lasts, Comes, same-lasts, sibling-row, row-range, stands-at, stands-comes, same-stands, same-comes}
+use Rattle.step_laws.proofs.Rowwise.{OnRow, Same, Lasts, Comes, same-lasts, sibling-row, row-range, stands-at, stands-comes, same-stands}
+use Rattle.step_laws.proofs.Rowwise.{same-comes}
 use Rattle.step_laws.proofs.LevelCourses.{Skipped}
 use Rattle.reader_laws.proofs.TwoLooks.{StaysOrMoves, TwoLooks, two-looks}
 use Rattle.reader_laws.proofs.Walk.{WasLeaf, Leaves}
@@ -49,11 +47,13 @@ module _ (l a b : ℕ) (v w : View) (ov : Orderly v) (ow : Orderly w) (s : Skipp
       in-range m k q h = rw q (or-right (eqb b 0) _ (lt-ltb k (v.node b).fence h))
 
       both : (k : ℕ) → (v.node n).fence ≤ k → (v.node a).fence ≤ k → k < (v.node b).fence → n ≡ a
-      both k f g h = sym (stands-at v ov k l n (stands v k l n ov r.0 r.1 f (in-range n k e h))).1 ∙ (stands-at v ov k l a (stands v k l a ov s.a-row.0 s.a-row.1 g (in-range a k s.next h))).1
+      both k f g h = sym (stands-at v ov k l n (stands v k l n ov r.0 r.1 f (in-range n k e h))).1
+          ∙ (stands-at v ov k l a (stands v k l a ov s.a-row.0 s.a-row.1 g (in-range a k s.next h))).1
 
       go : (c : Bool) → leb (v.node n).fence (v.node a).fence ≡ c → n ≡ a
       go true q = both (v.node a).fence (leb-true _ _ q) (omega arith) b-above
-      go false q = let h : (v.node a).fence < (v.node n).fence = leb-false (v.node n).fence (v.node a).fence q in both (v.node n).fence (omega arith) (omega arith) n-above
+      go false q = let h : (v.node a).fence < (v.node n).fence =
+          leb-false (v.node n).fence (v.node a).fence q in both (v.node n).fence (omega arith) (omega arith) n-above
 
   below-same : (m k : ℕ) → below w m k ≡ below v m k
   unfolding below
@@ -82,7 +82,8 @@ module _ (l a b : ℕ) (v w : View) (ov : Orderly v) (ow : Orderly w) (s : Skipp
       go : (d : Bool) → eqb n a ≡ d → within w n k ≡ true
       go true e =
           let q = eqb-true n a e in
-          let h : k < (v.node b).fence = below-true v k b b-some (ap (λ (m : ℕ). below v m k) (sym (ap (sibling_of v) q ∙ s.next)) ∙ c.covers.inside) in
+          let h : k < (v.node b).fence =
+          below-true v k b b-some (ap (λ (m : ℕ). below v m k) (sym (ap (sibling_of v) q ∙ s.next)) ∙ c.covers.inside) in
           ap (λ (m : ℕ). within w m k) q ∙ a-within k ∙ further k h
       go false e = ap (λ (m : ℕ). below w m k) (s.sibling n (eqb-false n a e)) ∙ below-same (v.node n).sibling k ∙ c.covers.inside
 
@@ -96,21 +97,27 @@ module _ (l a b : ℕ) (v w : View) (ov : Orderly v) (ow : Orderly w) (s : Skipp
           let y = only n c.row e in
           let d : Stands v k l b = rw (moves v k n p ∙ e) at c.stands in
           let r = s.row a s.a-row (λ x. apart (sym x)) in
-          rw y (stands-comes w ow k l a (stands w k l a ow r.0 r.1 (rw (s.fence a) (omega (arith, b-above, d.covers.fence))) (a-within k ∙ d.covers.inside)))
+          rw y (stands-comes w ow k l a
+          (stands w k l a ow r.0 r.1 (rw (s.fence a) (omega (arith, b-above, d.covers.fence))) (a-within k ∙ d.covers.inside)))
       go false false p q =
           let e = eqb-false (v.node n).sibling b q in
           let y : n ≢ a = λ x. e (ap (sibling_of v) x ∙ s.next) in
           let g = s.sibling n y in
           let out : within w n k ≡ false = ap (λ (m : ℕ). below w m k) g ∙ below-same (v.node n).sibling k ∙ p in
-          record { row = s.row n c.row z; stands = rw (moves w k n out ∙ g) (skip-stands k (v.node n).sibling e (rw (moves v k n p) at c.stands)) }
+          record {
+            row = s.row n c.row z;
+            stands = rw (moves w k n out ∙ g) (skip-stands k (v.node n).sibling e (rw (moves v k n p) at c.stands));
+          }
 
 -- ---- a node seen with the same level and sibling
 
-same-pass : (N l n : ℕ) (x x' : NodeView) (g : ℕ → NodeView) → x.level ≡ x'.level → x.sibling ≡ x'.sibling → seen_pass N l n x (g x.sibling) ≡ seen_pass N l n x' (g x'.sibling)
+same-pass : (N l n : ℕ) (x x' : NodeView) (g : ℕ → NodeView) → x.level ≡ x'.level → x.sibling ≡ x'.sibling → seen_pass N l n x (g x.sibling)
+    ≡ seen_pass N l n x' (g x'.sibling)
 unfolding seen_pass seen_on on_level
 same-pass N l n x x' g e f = λ i. (in_range N n && eqb (e i) l) && (eqb (f i) 0 || (in_range N (f i) && eqb (g (f i)).level l))
 
-same-inside : (x x' : NodeView) (g : ℕ → NodeView) (k : ℕ) → x.sibling ≡ x'.sibling → seen_within x (g x.sibling) k ≡ seen_within x' (g x'.sibling) k
+same-inside : (x x' : NodeView) (g : ℕ → NodeView) (k : ℕ) → x.sibling ≡ x'.sibling → seen_within x (g x.sibling) k
+    ≡ seen_within x' (g x'.sibling) k
 unfolding seen_within below
 same-inside x x' g k f = λ i. eqb (f i) 0 || ltb k (g (f i)).fence
 
@@ -151,11 +158,13 @@ module _ (w : ℕ → View) (orderly : (i : ℕ) → Orderly (w i)) (l : ℕ) (y
   skip-row : (i j n : ℕ) → i ≤ j → OnRow (w i) l n → OnRow (w j) l n ⊎ ((n ≡ b) × (last < j) × OnRow (w last) l b)
   skip-row i j n h r = go (ltb last i) (ltb last j) refl refl (same-or-not n b)
     where
-      go : (c d : Bool) → ltb last i ≡ c → ltb last j ≡ d → (n ≡ b) ⊎ (n ≢ b) → OnRow (w j) l n ⊎ ((n ≡ b) × (last < j) × OnRow (w last) l b)
+      go : (c d : Bool) → ltb last i ≡ c → ltb last j ≡ d → (n ≡ b) ⊎ (n ≢ b) → OnRow (w j) l n
+          ⊎ ((n ≡ b) × (last < j) × OnRow (w last) l b)
       go true d p q e = let g = ltb-true last i p in inl ((y.late i j g (omega arith)).there n r)
       go false false p q e = inl ((y.early i j (ltb-false last i p) (ltb-false last j q)).there n r)
       go false true p q (inl e) = let g = ltb-true last j q in inr (e, g, (y.skips j g).b-row)
-      go false true p q (inr z) = inl ((y.skips j (ltb-true last j q)).row n ((y.early i last (ltb-false last i p) (omega arith)).there n r) z)
+      go false true p q (inr z) =
+          inl ((y.skips j (ltb-true last j q)).row n ((y.early i last (ltb-false last i p) (omega arith)).there n r) z)
 
   -- ---- searches
 
@@ -175,18 +184,21 @@ module _ (w : ℕ → View) (orderly : (i : ℕ) → Orderly (w i)) (l : ℕ) (y
         m : ℕ
         m = ((w i).node n).sibling
 
-        moved-to : (u : TwoLooks (w i) (w j) N k l n) → seen_within (first w n i) (second w n i j) k ≡ false → Stands (w i) k l m → Looked w N k l n i j
+        moved-to : (u : TwoLooks (w i) (w j) N k l n) → seen_within (first w n i) (second w n i j) k ≡ false
+            → Stands (w i) k l m → Looked w N k l n i j
         moved-to u e s = go (ltb last j) (same-or-not m b) refl
           where
             at-last : Stands (w last) k l m
             at-last = same-at i last (y.early i last g (omega arith)) m s
 
             go : (d : Bool) → (m ≡ b) ⊎ (m ≢ b) → ltb last j ≡ d → Looked w N k l n i j
-            go false r q = looked-next w N k l n i j h u.passes e j (omega arith) refl refl (same-at i j (y.early i j g (ltb-false last j q)) m s)
+            go false r q = looked-next w N k l n i j h u.passes e j (omega arith) refl refl
+                (same-at i j (y.early i j g (ltb-false last j q)) m s)
             go true (inl r) q =
                 let f = ltb-true last j q in
                 let a = y.skips j f in
-                looked-next w N k l n i j h u.passes e last (omega arith) (ap (left_of (w j)) r ∙ a.b-left ∙ ap (left_of (w last)) (sym r)) (ap (shown_of (w j)) r ∙ a.b-shown ∙ ap (shown_of (w last)) (sym r)) at-last
+                looked-next w N k l n i j h u.passes e last (omega arith) (ap (left_of (w j)) r ∙ a.b-left ∙ ap (left_of (w last)) (sym r))
+                (ap (shown_of (w j)) r ∙ a.b-shown ∙ ap (shown_of (w last)) (sym r)) at-last
             go true (inr z) q = looked-next w N k l n i j h u.passes e j (omega arith) refl refl (skip-at j (ltb-true last j q) m z at-last)
 
         from : (u : TwoLooks (w i) (w j) N k l n) → StaysOrMoves (w i) (w j) k l n → Looked w N k l n i j
@@ -198,7 +210,8 @@ module _ (w : ℕ → View) (orderly : (i : ℕ) → Orderly (w i)) (l : ℕ) (y
       where
         from : (u : TwoLooks (w i) (w j) N k l n) → StaysOrMoves (w i) (w j) k l n → Looked w N k l n i j
         from u (inl a) = looked-here w N k l n i j h u.passes a.1 i h refl refl a.0
-        from u (inr a) = looked-next w N k l n i j h u.passes a.2 j (omega arith) refl refl (same-at i j (y.late i j g (omega arith)) ((w i).node n).sibling a.1)
+        from u (inr a) = looked-next w N k l n i j h u.passes a.2 j (omega arith) refl refl
+            (same-at i j (y.late i j g (omega arith)) ((w i).node n).sibling a.1)
 
     -- b is looked at when it has been passed over, and is seen as it was
     module _ (i j : ℕ) (g : last < i) (h : i ≤ j) (c : Comes (w last) k l y.b) where
@@ -213,7 +226,11 @@ module _ (w : ℕ → View) (orderly : (i : ℕ) → Orderly (w i)) (l : ℕ) (y
 
       -- its sibling is another
       on : ((w last).node b).sibling ≢ 0 → ((w last).node b).sibling ≢ b
-      on z e = omega (arith, (sib-facts (w last) b (each-mem (Good (w last)) (orderly last).good (y.skips i g).b-row.0) z).fence, ap (fence_of (w last)) e)
+      on z e = omega (
+        arith,
+        (sib-facts (w last) b (each-mem (Good (w last)) (orderly last).good (y.skips i g).b-row.0) z).fence,
+        ap (fence_of (w last)) e,
+      )
 
       b-looks : Looked w N k l y.b i j
       b-looks = from u.stands
@@ -221,8 +238,10 @@ module _ (w : ℕ → View) (orderly : (i : ℕ) → Orderly (w i)) (l : ℕ) (y
           from : StaysOrMoves (w last) (w j) k l b → Looked w N k l b i j
           from (inl a) = looked-here w N k l b i j h pass (inside ∙ a.1) last (omega arith) (y.skips i g).b-left (y.skips i g).b-shown a.0
           from (inr a) =
-              let some : ((w last).node b).sibling ≢ 0 = λ z. false≢true (sym a.0 ∙ ap (λ (m : ℕ). below (w last) m k) z ∙ unfold below in refl) in
-              looked-next w N k l b i j h pass (inside ∙ a.2) j (omega arith) refl refl (rw (b-sibling i g) (skip-at j (omega arith) ((w last).node b).sibling (on some) a.1))
+              let some : ((w last).node b).sibling ≢ 0 =
+              λ z. false≢true (sym a.0 ∙ ap (λ (m : ℕ). below (w last) m k) z ∙ unfold below in refl) in
+              looked-next w N k l b i j h pass (inside ∙ a.2) j (omega arith) refl refl
+              (rw (b-sibling i g) (skip-at j (omega arith) ((w last).node b).sibling (on some) a.1))
 
     pub skip-arrives : Arrives w N k l
     skip-arrives x n c f i j g h = go (ltb last i) (ltb last x) refl refl (same-or-not n b)
@@ -231,22 +250,32 @@ module _ (w : ℕ → View) (orderly : (i : ℕ) → Orderly (w i)) (l : ℕ) (y
         at-last q = same-comes (w x) (w last) (orderly x) (orderly last) l (y.early x last q (omega arith)) k n c
 
         go : (d e : Bool) → ltb last i ≡ d → ltb last x ≡ e → (n ≡ b) ⊎ (n ≢ b) → Looked w N k l n i j
-        go false e p q s = let u = ltb-false last i p in early-looks n i j u h (same-comes (w x) (w i) (orderly x) (orderly i) l (y.early x i (omega arith) u) k n c)
-        go true true p q s = let u = ltb-true last i p in late-looks n i j u h (same-comes (w x) (w i) (orderly x) (orderly i) l (y.late x i (ltb-true last x q) u) k n c)
+        go false e p q s = let u =
+            ltb-false last i p in early-looks n i j u h
+            (same-comes (w x) (w i) (orderly x) (orderly i) l (y.early x i (omega arith) u) k n c)
+        go true true p q s = let u =
+            ltb-true last i p in late-looks n i j u h
+            (same-comes (w x) (w i) (orderly x) (orderly i) l (y.late x i (ltb-true last x q) u) k n c)
         go true false p q (inl e) = rw e (b-looks i j (ltb-true last i p) h (rw e at (at-last (ltb-false last x q))))
         go true false p q (inr z) =
             let u = ltb-true last i p in
-            late-looks n i j u h (skip-comes l y.a b (w last) (w i) (orderly last) (orderly i) (y.skips i u) k n z (at-last (ltb-false last x q)))
+            late-looks n i j u h
+            (skip-comes l y.a b (w last) (w i) (orderly last) (orderly i) (y.skips i u) k n z (at-last (ltb-false last x q)))
 
 -- the leaves
 pub skip-leaves : (w : ℕ → View) → ((i : ℕ) → Orderly (w i)) → Skipping w 0 → Leaves w
 skip-leaves w orderly y = record { lasts = skip-lasts w orderly 0 y; next = next }
   where
-    next : (i j n : ℕ) → i ≤ j → OnRow (w i) 0 n → ((w j).node n).sibling ≢ 0 → WasLeaf w j ((w j).node n).sibling × (((w j).node n).fence < ((w j).node ((w j).node n).sibling).fence)
+    next : (i j n : ℕ) → i ≤ j → OnRow (w i) 0 n → ((w j).node n).sibling ≢ 0 → WasLeaf w j ((w j).node n).sibling
+        × (((w j).node n).fence < ((w j).node ((w j).node n).sibling).fence)
     next i j n h r z = go (skip-row w orderly 0 y i j n h r)
       where
-        go : OnRow (w j) 0 n ⊎ ((n ≡ y.b) × (y.last < j) × OnRow (w y.last) 0 y.b) → WasLeaf w j ((w j).node n).sibling × (((w j).node n).fence < ((w j).node ((w j).node n).sibling).fence)
-        go (inl q) = ((j, omega arith, sibling-row (w j) (orderly j) 0 n q z), (sib-facts (w j) n (each-mem (Good (w j)) (orderly j).good q.0) z).fence)
+        go : OnRow (w j) 0 n ⊎ ((n ≡ y.b) × (y.last < j) × OnRow (w y.last) 0 y.b) → WasLeaf w j ((w j).node n).sibling
+            × (((w j).node n).fence < ((w j).node ((w j).node n).sibling).fence)
+        go (inl q) = (
+          (j, omega arith, sibling-row (w j) (orderly j) 0 n q z),
+          (sib-facts (w j) n (each-mem (Good (w j)) (orderly j).good q.0) z).fence,
+        )
         go (inr (e, g, q)) =
             let last = y.last in
             let b = y.b in
@@ -255,4 +284,7 @@ skip-leaves w orderly y = record { lasts = skip-lasts w orderly 0 y; next = next
             let some : s ≢ 0 = λ x. z (same ∙ x) in
             let up = (sib-facts (w last) b (each-mem (Good (w last)) (orderly last).good q.0) some).fence in
             let f = (y.skips j g).fence in
-            rw same ((last, omega arith, sibling-row (w last) (orderly last) 0 b q some), omega (arith, up, f n, f s, ap (fence_of (w last)) e))
+            rw same (
+              (last, omega arith, sibling-row (w last) (orderly last) 0 b q some),
+              omega (arith, up, f n, f s, ap (fence_of (w last)) e),
+            )

@@ -1,9 +1,8 @@
--- A copy of which each word was read twice around one moment of a call is the table of that moment: its searches answer as before the call, or
+-- A copy of which each word was read twice around one moment of a call is the table of that moment: its searches answer as before the call,
+-- or
 -- as after it.
-use mathlib.Core.Path.{◌≡◌, sym, ◌∙◌}
-use mathlib.Core.Logic.{◌⊎◌, ⊎_map}
-use Prim.Native.Nat.{ℕ, ◌<◌}
-use lib.ListN.{take}
+use Rattle.std.proofs.Common.{◌≡◌, ℕ, ◌<◌, ◌⊎◌, take, sym, ◌∙◌}
+use mathlib.Core.Logic.{⊎_map}
 use Rattle.model.specs.declared.Answer.TheVariants.{Refused}
 use Rattle.model.specs.Table.{Words, at}
 use Rattle.model.specs.Slots.{node_view}
@@ -17,12 +16,17 @@ use Rattle.reader_laws.proofs.Returns.{moment-right, no-return}
 use Rattle.reader_laws.proofs.Copies.{copy-answers}
 
 -- a word read twice is that of the moment between
-read-word : (x : Call) (words dock : ℕ) (t : Words) → Settled t → refusal x words dock t ≡ 0 → (b : ℕ) (u : Words) (w : ℕ) → ReadTwice x dock t b u w → at u w ≡ at (table_at x dock t b) w
+read-word : (x : Call) (words dock : ℕ) (t : Words) → Settled t → refusal x words dock t ≡ 0 → (b : ℕ) (u : Words) (w : ℕ)
+    → ReadTwice x dock t b u w → at u w ≡ at (table_at x dock t b) w
 read-word x words dock t h ok b u w r =
-    sym r.first-value ∙ sym (no-return x words dock t h ok r.sighted r.first b r.second w r.early r.before r.after r.in-sight (r.first-value ∙ sym r.second-value))
+    sym r.first-value ∙ sym
+    (no-return x words dock t h ok r.sighted r.first b r.second w r.early r.before r.after r.in-sight
+    (r.first-value ∙ sym r.second-value))
 
 pub copy-right : CopyRight
-copy-right x words dock t u h ok long b header nodes = ⊎_map (λ f n k. ⊎_map (λ e. e ∙ f n k) (λ e. e) (answers n k)) (λ f n k. ⊎_map (λ e. e ∙ f n k) (λ e. e) (answers n k)) (moment-right x words dock t ok b)
+copy-right x words dock t u h ok long b header nodes =
+    ⊎_map (λ f n k. ⊎_map (λ e. e ∙ f n k) (λ e. e) (answers n k)) (λ f n k. ⊎_map (λ e. e ∙ f n k) (λ e. e) (answers n k))
+    (moment-right x words dock t ok b)
   where
     v : Words
     v = table_at x dock t b

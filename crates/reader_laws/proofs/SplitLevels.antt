@@ -1,14 +1,8 @@
 -- One split of an insertion, moment by moment: which nodes are reached, and which node stands for the key afterwards.
-use mathlib.Core.Path.{◌≡◌, refl, sym, ap, subst, ◌∙◌}
-use mathlib.Core.Bool.{Bool, true, false}
-use mathlib.Core.Logic.{◌≢◌, ◌⊎◌, inl, inr}
-use mathlib.Core.List.{List, [], ◌∷◌, Memᴰ}
-use Prim.Native.Nat.{ℕ, suc, ◌+◌, ◌≤◌, ◌<◌}
-use native.Mathlib.Omega.{arith}
-use lib.Dec.{ltb}
-use lib.ListN.{length, take}
+use Rattle.std.proofs.Common.{◌≡◌, ℕ, suc, ◌+◌, ◌<◌, ◌≤◌, Bool, true, false, ltb, ◌≢◌, ◌⊎◌, List, [], ◌∷◌, length, take, sym, refl, ap, ◌∙◌}
+use Rattle.std.proofs.Common.{subst, inl, inr, arith, ltb-false, ltb-true}
+use mathlib.Core.List.{Memᴰ}
 use lib.Seq.{take-length, take-append-le}
-use borrow.Author.Tests.{ltb-true, ltb-false}
 use Rattle.model.specs.declared.Node.{Node}
 use Rattle.model.specs.Table.{Words, at, node_start, node_from, root_word, no_collection}
 use Rattle.model.specs.Slots.{node_view, View, view_of}
@@ -46,7 +40,8 @@ use Rattle.reader_laws.proofs.SettledNodes.{own-fine}
 use Rattle.reader_laws.proofs.SplitValues.{all-reach, Going, ns, a-reached, b-free, full-node, split-a, going-next}
 
 -- a node that stood for k leads, by one move at most, to the one that stands for it later
-pub history-comes : (w : ℕ → View) → ((i : ℕ) → Orderly (w i)) → (l : ℕ) → History w l → (i j k m : ℕ) → i ≤ j → Stands (w i) k l m → Comes (w j) k l m
+pub history-comes : (w : ℕ → View) → ((i : ℕ) → Orderly (w i)) → (l : ℕ) → History w l → (i j k m : ℕ) → i ≤ j
+    → Stands (w i) k l m → Comes (w j) k l m
 history-comes w o l y i j k m h c = go (ltb i y.turn) (ltb j y.turn) refl refl
   where
     go : (a b : Bool) → ltb i y.turn ≡ a → ltb j y.turn ≡ b → Comes (w j) k l m
@@ -80,8 +75,11 @@ module _ (n k y l : ℕ) (t : Words) (g : Going n k y (suc l) t) where
   may-turn d = go (same-or-not d l)
     where
       go : (d ≡ l) ⊎ (d ≢ l) → MayTurn (tree_at (root_word n)) d t ss
-      go (inl e) = inr (rw e (split-turn (root_word n) (ns n k y l t g) t (own-fine n t g.ready.collection g.ready.settled) k l (full-node n k y l t g) b (b-free n k y l t g)))
-      go (inr z) = inl (split-quiet (root_word n) (ns n k y l t g) t (own-fine n t g.ready.collection g.ready.settled) k l (full-node n k y l t g) b (b-free n k y l t g) d z)
+      go (inl e) = inr (rw e
+          (split-turn (root_word n) (ns n k y l t g) t (own-fine n t g.ready.collection g.ready.settled) k l (full-node n k y l t g)
+          b (b-free n k y l t g)))
+      go (inr z) = inl (split-quiet (root_word n) (ns n k y l t g) t (own-fine n t g.ready.collection g.ready.settled) k l
+          (full-node n k y l t g) b (b-free n k y l t g) d z)
 
   history : (d : ℕ) → History (λ (j : ℕ). view_of n (part j)) d
   history d = stores-history (tree_at (root_word n)) t ss orderly d (may-turn d)
@@ -89,33 +87,41 @@ module _ (n k y l : ℕ) (t : Words) (g : Going n k y (suc l) t) where
   -- ---- which nodes are reached
 
   own-stays : (j m : ℕ) → Memᴰ m (reached (view_of n (part j))) → j ≤ length ss → Memᴰ m (reached (view_of n t'))
-  own-stays j m i h = let u = (history (node_view (part j) m).level).stays j (length ss) m h (i, refl) in rw (take-length {A = Store}) at u.0
+  own-stays j m i h = let u =
+      (history (node_view (part j) m).level).stays j (length ss) m h (i, refl) in rw (take-length {A = Store}) at u.0
 
   -- the first 32 stores are B's words: they change no node that is reached
   words-part : (j : ℕ) → j ≤ 32 → take j ss ≡ take j (put_all (node_start b) (split_words t a))
   unfolding split
-  words-part j h = take-append-le j (put_all (node_start b) (split_words t a)) _ (omega (arith, put-all-length (node_start b) (split_words t a), length-split t a))
+  words-part j h = take-append-le j (put_all (node_start b) (split_words t a)) _
+      (omega (arith, put-all-length (node_start b) (split_words t a), length-split t a))
 
   own-early : (j m : ℕ) → j ≤ 32 → Memᴰ m (reached (view_of n (part j))) → Memᴰ m (reached (view_of n t))
   own-early j m h i =
-      let q = whole-quiet (root_word n) (ns n k y l t g) t b (own-fine n t g.ready.collection g.ready.settled) (b-free n k y l t g) (split_words t a) (length-split t a) (node_view (part j) m).level j in
+      let q = whole-quiet (root_word n) (ns n k y l t g) t b (own-fine n t g.ready.collection g.ready.settled) (b-free n k y l t g)
+      (split_words t a) (length-split t a) (node_view (part j) m).level j in
       let d = (node_view (part j) m).level in
       let here : OnRow (view_of n (part j)) d m = (i, refl) in
-      let r : OnRow (view_of n (apply (take j (put_all (node_start b) (split_words t a))) t)) d m = subst (λ (us : List Store). OnRow (view_of n (apply us t)) d m) (words-part j h) here in
+      let r : OnRow (view_of n (apply (take j (put_all (node_start b) (split_words t a))) t)) d m =
+      subst (λ (us : List Store). OnRow (view_of n (apply us t)) d m) (words-part j h) here in
       (q.same.back m r).0
 
   other-same : (x : ℕ) → Is x t → x ≢ root_word n → (j m : ℕ) → Memᴰ m (reached (tree_at x (part j))) → Memᴰ m (reached (tree_at x t))
   other-same x i z j m r =
       ((arr-other (root_word n) ws t x (λ (x : ℕ). (d : ℕ) → Quiet (tree_at x) d t ss) (beside n t g.ready.collection g.ready.settled).1 i z
-      (split-beside (root_word n) ws t (arr-low (root_word n) ws t (beside n t g.ready.collection g.ready.settled).1) (own-tree n t g.ready.collection g.ready.settled) k l (full-node n k y l t g) b (b-free n k y l t g))
+      (split-beside (root_word n) ws t (arr-low (root_word n) ws t (beside n t g.ready.collection g.ready.settled).1)
+      (own-tree n t g.ready.collection g.ready.settled) k l (full-node n k y l t g) b (b-free n k y l t g))
       (node_view (part j) m).level j).same.back m (r, refl)).0
 
   -- A node that some root reaches at moment j was reached before the split, or it is B, and its words are stored by then.
-  pub split-sight : (j c m : ℕ) → j ≤ length (split_for n t l k) → no_collection c t ≡ false → Memᴰ m (reached (view_of c (apply (take j (split_for n t l k)) t)))
-      → (elem m (reached_all t) ≡ true) ⊎ ((m ≡ fresh t (standing n t l k)) × (32 < j) × (elem m (reached_all (apply (split_for n t l k) t)) ≡ true))
+  pub split-sight : (j c m : ℕ) → j ≤ length (split_for n t l k) → no_collection c t ≡ false
+      → Memᴰ m (reached (view_of c (apply (take j (split_for n t l k)) t)))
+      → (elem m (reached_all t) ≡ true)
+      ⊎ ((m ≡ fresh t (standing n t l k)) × (32 < j) × (elem m (reached_all (apply (split_for n t l k) t)) ≡ true))
   split-sight j c m h there-c i = go (same-or-not (root_word c) (root_word n)) (ltb 32 j) refl
     where
-      late : 32 < j → Memᴰ m (reached (view_of n (part j))) → (elem m (reached_all t) ≡ true) ⊎ ((m ≡ b) × (32 < j) × (elem m (reached_all t') ≡ true))
+      late : 32 < j → Memᴰ m (reached (view_of n (part j))) → (elem m (reached_all t) ≡ true)
+          ⊎ ((m ≡ b) × (32 < j) × (elem m (reached_all t') ≡ true))
       late q r = by (same-or-not m b)
         where
           done : elem m (reached_all t') ≡ true
@@ -128,7 +134,8 @@ module _ (n k y l : ℕ) (t : Words) (g : Going n k y (suc l) t) where
       own : root_word c ≡ root_word n → Memᴰ m (reached (view_of n (part j)))
       own e = rw e at i
 
-      go : (root_word c ≡ root_word n) ⊎ (root_word c ≢ root_word n) → (s : Bool) → ltb 32 j ≡ s → (elem m (reached_all t) ≡ true) ⊎ ((m ≡ b) × (32 < j) × (elem m (reached_all t') ≡ true))
+      go : (root_word c ≡ root_word n) ⊎ (root_word c ≢ root_word n) → (s : Bool) → ltb 32 j ≡ s → (elem m (reached_all t) ≡ true)
+          ⊎ ((m ≡ b) × (32 < j) × (elem m (reached_all t') ≡ true))
       go (inr z) s q = inl (all-reach c t there-c g.ready.settled m (other-same (root_word c) (there c t there-c).1 z j m i))
       go (inl e) true q = late (ltb-true 32 j q) (own e)
       go (inl e) false q = inl (all-reach n t g.ready.collection g.ready.settled m (own-early j m (ltb-false 32 j q) (own e)))
@@ -141,10 +148,14 @@ module _ (n k y l : ℕ) (t : Words) (g : Going n k y (suc l) t) where
       let w = suc (node_start a) in
       let u = (has-node-iff t a).0 (settled-plain n t g.ready.collection g.ready.settled a (a-reached n k y l t g)).there in
       let e : node_start a + 1 ≡ w = omega arith in
-      let v = split-a n k y l t g w (omega arith, omega arith) ∙ values-here w (put w b) (put (pointer_word a 5) 0 ∷ []) refl ∙ ap (λ (vs : List ℕ). b ∷ vs) (none-put w 0 (pointer_word a 5) (λ q. omega arith)) in
-      ap (λ (x : Node). x.sibling) (node-in t' a ((has-node-iff t' a).1 (u.0, rw (length-apply ss t) u.1))) ∙ ap (at t') e ∙ value-one w b ss t (omega (arith, u.0, u.1)) v
+      let v = split-a n k y l t g w (omega arith, omega arith) ∙ values-here w (put w b) (put (pointer_word a 5) 0 ∷ []) refl
+      ∙ ap (λ (vs : List ℕ). b ∷ vs) (none-put w 0 (pointer_word a 5) (λ q. omega arith)) in
+      ap (λ (x : Node). x.sibling) (node-in t' a ((has-node-iff t' a).1 (u.0, rw (length-apply ss t) u.1))) ∙ ap (at t') e
+      ∙ value-one w b ss t (omega (arith, u.0, u.1)) v
 
-  pub standing-split : (standing n (apply (split_for n t l k) t) l k ≡ standing n t l k) ⊎ (standing n (apply (split_for n t l k) t) l k ≡ fresh t (standing n t l k))
+  pub standing-split :
+      (standing n (apply (split_for n t l k) t) l k ≡ standing n t l k)
+      ⊎ (standing n (apply (split_for n t l k) t) l k ≡ fresh t (standing n t l k))
   unfolding apply
   standing-split = go (within v a k) refl
     where
@@ -154,11 +165,15 @@ module _ (n k y l : ℕ) (t : Words) (g : Going n k y (suc l) t) where
       comes : Comes v k l a
       comes =
           let f = full-node n k y l t g in
-          let stands = standing-stands (root_word n) (ns n k y l t g) t (own-fine n t g.ready.collection g.ready.settled) k l (omega (arith, f.high)) in
-          rw (take-length {A = Store}) at (history-comes (λ (j : ℕ). view_of n (part j)) orderly l (history l) 0 (length ss) k a (omega arith) stands)
+          let stands = standing-stands (root_word n) (ns n k y l t g) t (own-fine n t g.ready.collection g.ready.settled) k l
+          (omega (arith, f.high)) in
+          rw (take-length {A = Store}) at
+          (history-comes (λ (j : ℕ). view_of n (part j)) orderly l (history l) 0 (length ss) k a (omega arith) stands)
 
       is : (m : ℕ) → Stands v k l m → standing n t' l k ≡ m
-      is m c = standing-is (root_word n) (ns n k y l t g) t' (split-settled (root_word n) (ns n k y l t g) t (own-fine n t g.ready.collection g.ready.settled) k l (full-node n k y l t g) b (b-free n k y l t g)) k l m c
+      is m c = standing-is (root_word n) (ns n k y l t g) t'
+          (split-settled (root_word n) (ns n k y l t g) t (own-fine n t g.ready.collection g.ready.settled) k l (full-node n k y l t g) b
+          (b-free n k y l t g)) k l m c
 
       go : (c : Bool) → within v a k ≡ c → (standing n t' l k ≡ a) ⊎ (standing n t' l k ≡ b)
       go true e = inl (is a (rw (stays v k a e) at comes.stands))

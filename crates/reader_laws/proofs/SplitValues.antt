@@ -1,11 +1,8 @@
 -- One split of an insertion: which words it stores to, node by node, and that a pointer which enters a node was none of its own.
-use mathlib.Core.Path.{◌≡◌, refl, sym, ap, ◌∙◌}
-use mathlib.Core.Bool.{Bool, true, false, false≢true}
-use mathlib.Core.Logic.{◌≢◌}
-use mathlib.Core.List.{List, [], ◌∷◌, ◌++◌, append-nil, append_assoc, Memᴰ}
-use Prim.Native.Nat.{ℕ, zero, suc, ◌+◌, ◌≤◌, ◌<◌}
-use native.Mathlib.Omega.{arith}
-use lib.ListN.{length}
+use Rattle.std.proofs.Common.{◌≡◌, ℕ, zero, suc, ◌+◌, ◌<◌, ◌≤◌, Bool, true, false, ◌≢◌, List, [], ◌∷◌, ◌++◌, length, sym, refl, ap, ◌∙◌}
+use Rattle.std.proofs.Common.{append_assoc, append-nil, arith}
+use mathlib.Core.Bool.{false≢true}
+use mathlib.Core.List.{Memᴰ}
 use Rattle.model.specs.Table.{Words, nodes, node_start, root_word, no_collection}
 use Rattle.model.specs.Slots.{Slot, slot, node_view, view_of}
 use Rattle.model.specs.Reached.{kept, named, reached, reached_all, mapping}
@@ -56,23 +53,32 @@ no-header a w l p = omega (arith, p.0)
 put-all-into : (a : ℕ) (xs : Words) → Each (Into a (length xs)) (put_all a xs)
 unfolding put_all
 put-all-into a [] = tt
-put-all-into a (x ∷ xs) = ((omega arith, omega arith), Each-map (Into (suc a) (length xs)) (Into a (suc (length xs))) (put_all (suc a) xs) (λ s h. (omega (arith, h.0), omega (arith, h.1))) (put-all-into (suc a) xs))
+put-all-into a (x ∷ xs) = (
+  (omega arith, omega arith),
+  Each-map (Into (suc a) (length xs)) (Into a (suc (length xs))) (put_all (suc a) xs) (λ s h. (omega (arith, h.0), omega (arith, h.1)))
+      (put-all-into (suc a) xs),
+)
 
 -- all words of a node stored, at no word of another
 pub put-all-none : (b w : ℕ) (xs : Words) → length xs ≡ 32 → (OfNode b w → ⊥) → values_to w (put_all (node_start b) xs) ≡ []
-put-all-none b w xs e z = into-none (node_start b) (length xs) w (put_all (node_start b) xs) (put-all-into (node_start b) xs) (λ i j. z (i, omega arith))
+put-all-none b w xs e z =
+    into-none (node_start b) (length xs) w (put_all (node_start b) xs) (put-all-into (node_start b) xs) (λ i j. z (i, omega arith))
 
 -- a shift in goes to no other node
 pub shift-none : (t : Words) (x k y w : ℕ) → length (node_view t x).shown ≤ 10 → (OfNode x w → ⊥) → values_to w (shift_in_at t x k y) ≡ []
-shift-none t x k y w few z = into-none (node_start x + 8) 24 w (shift_in_at t x k y) (shift-in-into t x k y few) (λ i j. z (omega arith, omega arith))
+shift-none t x k y w few z =
+    into-none (node_start x + 8) 24 w (shift_in_at t x k y) (shift-in-into t x k y few) (λ i j. z (omega arith, omega arith))
 
 -- what a root reaches is reached
-pub all-reach : (n : ℕ) (t : Words) (h : no_collection n t ≡ false) → settled t ≡ true → (m : ℕ) → Memᴰ m (reached (view_of n t)) → elem m (reached_all t) ≡ true
+pub all-reach : (n : ℕ) (t : Words) (h : no_collection n t ≡ false) → settled t ≡ true → (m : ℕ) → Memᴰ m (reached (view_of n t))
+    → elem m (reached_all t) ≡ true
 all-reach n t h s m i = go (elem m (reached_all t)) refl
   where
     go : (b : Bool) → elem m (reached_all t) ≡ b → b ≡ true
     go true e = refl
-    go false e = absurd (false≢true (sym (((arr-covers (root_word n) (beside n t h s).0 t (beside n t h s).1).split m).0 e).0 ∙ (elem-iff m (reached (view_of n t))).1 i))
+    go false e = absurd (false≢true
+        (sym (((arr-covers (root_word n) (beside n t h s).0 t (beside n t h s).1).split m).0 e).0
+        ∙ (elem-iff m (reached (view_of n t))).1 i))
 
 -- ---- a run that is ready to be split, and a pair that may enter
 
@@ -167,7 +173,12 @@ module _ (n k y : ℕ) where
     p-all = all-reach n t r.collection r.settled p p-reached
 
     pub a-not-p : standing n t l k ≢ standing n t (suc l) k
-    a-not-p e = omega (arith, standing-level n t r.collection r.settled l k (omega (arith, r.high)), standing-level n t r.collection r.settled (suc l) k r.high, ap (λ (m : ℕ). (node_view t m).level) e)
+    a-not-p e = omega (
+      arith,
+      standing-level n t r.collection r.settled l k (omega (arith, r.high)),
+      standing-level n t r.collection r.settled (suc l) k r.high,
+      ap (λ (m : ℕ). (node_view t m).level) e,
+    )
 
     -- ---- its stores: B's words, two of A, the shift in at the parent
 
@@ -177,41 +188,66 @@ module _ (n k y : ℕ) where
     abbrev shift : List Store
     shift = shift_in_at t p (middle t a).key b
 
-    parted : (w : ℕ) → values_to w (split_for n t l k) ≡ values_to w (put_all (node_start b) (split_words t a)) ++ (values_to w two ++ values_to w shift)
+    parted : (w : ℕ) → values_to w (split_for n t l k) ≡ values_to w (put_all (node_start b) (split_words t a))
+        ++ (values_to w two ++ values_to w shift)
     unfolding split
-    parted w = values-append w (put_all (node_start b) (split_words t a)) (two ++ shift) ∙ ap (λ (vs : List ℕ). values_to w (put_all (node_start b) (split_words t a)) ++ vs) (values-append w two shift)
+    parted w = values-append w (put_all (node_start b) (split_words t a)) (two ++ shift)
+        ∙ ap (λ (vs : List ℕ). values_to w (put_all (node_start b) (split_words t a)) ++ vs) (values-append w two shift)
 
-    pub whole-none : (w : ℕ) → (OfNode (fresh t (standing n t l k)) w → ⊥) → values_to w (put_all (node_start (fresh t (standing n t l k))) (split_words t (standing n t l k))) ≡ []
+    pub whole-none : (w : ℕ) → (OfNode (fresh t (standing n t l k)) w → ⊥)
+        → values_to w (put_all (node_start (fresh t (standing n t l k))) (split_words t (standing n t l k))) ≡ []
     whole-none w z = put-all-none b w (split_words t a) (length-split t a) z
 
     two-none : (w : ℕ) → (OfNode a w → ⊥) → values_to w two ≡ []
-    two-none w z = values-past w _ _ (λ e. z (omega arith, omega arith)) ∙ none-put w 0 (pointer_word a 5) (λ e. z (omega arith, omega arith))
+    two-none w z = values-past w _ _ (λ e. z (omega arith, omega arith))
+        ∙ none-put w 0 (pointer_word a 5) (λ e. z (omega arith, omega arith))
 
-    pub parent-none : (w : ℕ) → (OfNode (standing n t (suc l) k) w → ⊥) → values_to w (shift_in_at t (standing n t (suc l) k) (middle t (standing n t l k)).key (fresh t (standing n t l k))) ≡ []
+    pub parent-none : (w : ℕ) → (OfNode (standing n t (suc l) k) w → ⊥)
+        → values_to w (shift_in_at t (standing n t (suc l) k) (middle t (standing n t l k)).key (fresh t (standing n t l k))) ≡ []
     parent-none w z = shift-none t p (middle t a).key b w r.above z
 
     -- after B is linked nothing goes to a word of B
     pub later-none : (w : ℕ) → OfNode (fresh t (standing n t l k)) w
-        → let a = standing n t l k in values_to w (put (suc (node_start a)) (fresh t a) ∷ put (pointer_word a 5) 0 ∷ shift_in_at t (standing n t (suc l) k) (middle t a).key (fresh t a)) ≡ []
-    later-none w i = values-append w two shift ∙ rw (two-none w (λ j. not-b a a-all (one-node a b w a-some b-some j i)), parent-none w (λ j. not-b p p-all (one-node p b w p-some b-some j i)))
+        → let a = standing n t l k in values_to w
+        (put (suc (node_start a)) (fresh t a) ∷ put (pointer_word a 5) 0
+        ∷ shift_in_at t (standing n t (suc l) k) (middle t a).key (fresh t a)) ≡ []
+    later-none w i = values-append w two shift
+        ∙ rw (
+          two-none w (λ j. not-b a a-all (one-node a b w a-some b-some j i)),
+          parent-none w (λ j. not-b p p-all (one-node p b w p-some b-some j i)),
+        )
 
     -- a word of none of the three, one of A, one of the parent
-    pub split-none : (w : ℕ) → (OfNode (fresh t (standing n t l k)) w → ⊥) → (OfNode (standing n t l k) w → ⊥) → (OfNode (standing n t (suc l) k) w → ⊥) → values_to w (split_for n t l k) ≡ []
+    pub split-none : (w : ℕ) → (OfNode (fresh t (standing n t l k)) w → ⊥) → (OfNode (standing n t l k) w → ⊥)
+        → (OfNode (standing n t (suc l) k) w → ⊥) → values_to w (split_for n t l k) ≡ []
     split-none w x y z = parted w ∙ rw (whole-none w x, two-none w y, parent-none w z)
 
-    pub split-a : (w : ℕ) → OfNode (standing n t l k) w → values_to w (split_for n t l k) ≡ values_to w (put (suc (node_start (standing n t l k))) (fresh t (standing n t l k)) ∷ put (pointer_word (standing n t l k) 5) 0 ∷ [])
+    pub split-a : (w : ℕ) → OfNode (standing n t l k) w → values_to w (split_for n t l k)
+        ≡ values_to w (put (suc (node_start (standing n t l k))) (fresh t (standing n t l k))
+        ∷ put (pointer_word (standing n t l k) 5) 0 ∷ [])
     split-a w i =
-        parted w ∙ rw (whole-none w (λ j. not-b a a-all (one-node a b w a-some b-some i j)), parent-none w (λ j. a-not-p (one-node a p w a-some p-some i j))) (append-nil (values_to w two))
+        parted w ∙ rw (
+          whole-none w (λ j. not-b a a-all (one-node a b w a-some b-some i j)),
+          parent-none w (λ j. a-not-p (one-node a p w a-some p-some i j)),
+        ) (append-nil (values_to w two))
 
-    pub split-p : (w : ℕ) → OfNode (standing n t (suc l) k) w → values_to w (split_for n t l k) ≡ values_to w (shift_in_at t (standing n t (suc l) k) (middle t (standing n t l k)).key (fresh t (standing n t l k)))
-    split-p w i = parted w ∙ rw (whole-none w (λ j. not-b p p-all (one-node p b w p-some b-some i j)), two-none w (λ j. a-not-p (one-node a p w a-some p-some j i)))
+    pub split-p : (w : ℕ) → OfNode (standing n t (suc l) k) w → values_to w (split_for n t l k)
+        ≡ values_to w (shift_in_at t (standing n t (suc l) k) (middle t (standing n t l k)).key (fresh t (standing n t l k)))
+    split-p w i = parted w
+        ∙ rw (
+          whole-none w (λ j. not-b p p-all (one-node p b w p-some b-some i j)),
+          two-none w (λ j. a-not-p (one-node a p w a-some p-some j i)),
+        )
 
     -- ---- the table after it
 
     pub going-next : Going l (apply (split_for n t l k) t)
     going-next =
         let e : mapping (view_of n (apply (split_for n t l k) t)) ≡ mapping (view_of n t) = (first-course l n ws t k arr r).maps in
-        record { ready = ready-later l n t k r; new = record { no-key = rw e g.new.no-key; no-recording = rw e g.new.no-recording; ok = g.new.ok } }
+        record {
+          ready = ready-later l n t k r;
+          new = record { no-key = rw e g.new.no-key; no-recording = rw e g.new.no-recording; ok = g.new.ok };
+        }
 
     pub stays-reached : (m : ℕ) → elem m (reached_all t) ≡ true → elem m (reached_all (apply (split_for n t l k) t)) ≡ true
     stays-reached = split-stays l n t k r
@@ -223,14 +259,19 @@ module _ (n k y : ℕ) where
     leaf-new new =
         let f = (own-tree n t h s).left in
         let ss = (node_view t (leaf_for (view_of n t) k)).shown in
-        rw (standing-leaf (view_of n t) k f.orderly) (Each-map (λ (s : Slot). y ≢ s.pointer) (λ (s : Slot). s.pointer ≢ y) ss (λ s z e. z (sym e)) (not-pointed y ss (enter-fresh (view_of n t) k y f new)))
+        rw (standing-leaf (view_of n t) k f.orderly)
+        (Each-map (λ (s : Slot). y ≢ s.pointer) (λ (s : Slot). s.pointer ≢ y) ss (λ s z e. z (sym e))
+        (not-pointed y ss (enter-fresh (view_of n t) k y f new)))
 
-    children-reached : (m : ℕ) → Memᴰ m (reached (view_of n t)) → (node_view t m).level ≢ 0 → Each (λ (s : Slot). elem s.pointer (reached_all t) ≡ true) (node_view t m).shown
+    children-reached : (m : ℕ) → Memᴰ m (reached (view_of n t)) → (node_view t m).level ≢ 0
+        → Each (λ (s : Slot). elem s.pointer (reached_all t) ≡ true) (node_view t m).shown
     children-reached m i z =
         let v = view_of n t in
         let f = (own-tree n t h s).left in
         let u = each-mem (NothingUnfinished v) (all-finished v f) i in
-        let c : Each (λ (x : ℕ). elem x (reached_all t) ≡ true) (named v m) = mem-each (λ (x : ℕ). elem x (reached_all t) ≡ true) (named v m) (λ x j. all-reach n t h s x (child-reached v m x f.orderly i (rw (u.names z) j))) in
+        let c : Each (λ (x : ℕ). elem x (reached_all t) ≡ true) (named v m) =
+        mem-each (λ (x : ℕ). elem x (reached_all t) ≡ true) (named v m)
+        (λ x j. all-reach n t h s x (child-reached v m x f.orderly i (rw (u.names z) j))) in
         rw u.keeps at ((each-map (λ (x : ℕ). elem x (reached_all t) ≡ true) (λ (s : Slot). s.pointer) (kept v m)).0 c.1)
 
   pub new-some : (l : ℕ) (t : Words) → Going l t → new_at l t ≢ 0
@@ -242,15 +283,22 @@ module _ (n k y : ℕ) where
   new-fresh (suc l) t g =
       let r = g.ready in
       let p = standing n t (suc l) k in
-      Each-map (λ (s : Slot). elem s.pointer (reached_all t) ≡ true) (λ (s : Slot). s.pointer ≢ new_at (suc l) t) (node_view t p).shown (λ s i. not-b l t g s.pointer i)
-      (children-reached t r.collection r.settled p (p-reached l t g) (λ z. omega (arith, standing-level n t r.collection r.settled (suc l) k r.high)))
+      Each-map (λ (s : Slot). elem s.pointer (reached_all t) ≡ true) (λ (s : Slot). s.pointer ≢ new_at (suc l) t) (node_view t p).shown
+      (λ s i. not-b l t g s.pointer i)
+      (children-reached t r.collection r.settled p (p-reached l t g)
+      (λ z. omega (arith, standing-level n t r.collection r.settled (suc l) k r.high)))
 
   -- nor was the pointer of A at which it is split
   pub middle-new : (l : ℕ) (t : Words) → Going (suc l) t → (middle t (standing n t l k)).pointer ≢ new_at l (apply (split_for n t l k) t)
-  middle-new zero t g = each-at (λ (s : Slot). s.pointer ≢ y) (node_view t (standing n t 0 k)).shown (slot 0 0) 5 (omega (arith, g.ready.full 0 (omega arith))) (leaf-new t g.ready.collection g.ready.settled g.new)
+  middle-new zero t g =
+      each-at (λ (s : Slot). s.pointer ≢ y) (node_view t (standing n t 0 k)).shown (slot 0 0) 5
+      (omega (arith, g.ready.full 0 (omega arith))) (leaf-new t g.ready.collection g.ready.settled g.new)
   middle-new (suc l) t g =
       let r = g.ready in
       let a = standing n t (suc l) k in
-      not-b l (apply (split_for n t (suc l) k) t) (going-next (suc l) t g) (middle t a).pointer (stays-reached (suc l) t g (middle t a).pointer
-      (each-at (λ (s : Slot). elem s.pointer (reached_all t) ≡ true) (node_view t a).shown (slot 0 0) 5 (omega (arith, r.full (suc l) (omega arith)))
-      (children-reached t r.collection r.settled a (a-reached (suc l) t g) (λ z. omega (arith, standing-level n t r.collection r.settled (suc l) k (omega (arith, r.high)))))))
+      not-b l (apply (split_for n t (suc l) k) t) (going-next (suc l) t g) (middle t a).pointer
+      (stays-reached (suc l) t g (middle t a).pointer
+      (each-at (λ (s : Slot). elem s.pointer (reached_all t) ≡ true) (node_view t a).shown (slot 0 0) 5
+      (omega (arith, r.full (suc l) (omega arith)))
+      (children-reached t r.collection r.settled a (a-reached (suc l) t g)
+      (λ z. omega (arith, standing-level n t r.collection r.settled (suc l) k (omega (arith, r.high)))))))

@@ -1,14 +1,7 @@
 -- What a level does over a list of stores is its history over the first parts of the list.
-use mathlib.Core.Path.{◌≡◌, refl, ap, ◌∙◌}
-use mathlib.Core.Bool.{Bool, true, false}
-use mathlib.Core.Logic.{inl, inr}
-use mathlib.Core.List.{List, [], ◌∷◌, ◌++◌, append-nil}
-use Prim.Native.Nat.{ℕ, suc, ◌-◌, ◌≤◌, ◌<◌}
-use native.Mathlib.Omega.{arith}
-use lib.Dec.{ltb}
-use lib.ListN.{length, take}
-use lib.Seq.{take_all, take-nil}
-use borrow.Author.Tests.{ltb-true, ltb-false}
+use Rattle.std.proofs.Common.{◌≡◌, ℕ, suc, ◌-◌, ◌<◌, ◌≤◌, Bool, true, false, ltb, List, [], ◌∷◌, ◌++◌, length, take, refl, ap, ◌∙◌, inl}
+use Rattle.std.proofs.Common.{inr, append-nil, arith, take_all, ltb-false, ltb-true}
+use lib.Seq.{take-nil}
 use Rattle.model.specs.Table.{Words}
 use Rattle.model.specs.Slots.{View}
 use Rattle.model.specs.Orders.{Store, apply}
@@ -26,13 +19,17 @@ module _ (t : Words) (ss before : List Store) (it : Store) (after : List Store) 
   pub take-early : (j : ℕ) → j ≤ length before → take j ss ≡ take j before
   take-early j h =
       let e : j - length before ≡ 0 = omega arith in
-      ap (take j) shape ∙ take-append j before (it ∷ after) ∙ ap (λ (x : ℕ). take j before ++ take x (it ∷ after)) e ∙ append-nil (take j before)
+      ap (take j) shape ∙ take-append j before (it ∷ after) ∙ ap (λ (x : ℕ). take j before ++ take x (it ∷ after)) e
+      ∙ append-nil (take j before)
 
-  pub take-late : (j : ℕ) → length before < j → apply (take j ss) t ≡ apply (take (j - suc (length before)) after) (do_store it (apply before t))
+  pub take-late : (j : ℕ) → length before < j → apply (take j ss) t
+      ≡ apply (take (j - suc (length before)) after) (do_store it (apply before t))
   unfolding apply
   take-late j h =
       let e : j - length before ≡ suc (j - suc (length before)) = omega arith in
-      ap (λ (x : List Store). apply x t) (ap (take j) shape ∙ take-append j before (it ∷ after) ∙ ap (λ (x : List Store). x ++ take (j - length before) (it ∷ after)) (take_all j before (omega arith))
+      ap (λ (x : List Store). apply x t)
+      (ap (take j) shape ∙ take-append j before (it ∷ after)
+      ∙ ap (λ (x : List Store). x ++ take (j - length before) (it ∷ after)) (take_all j before (omega arith))
       ∙ ap (λ (x : ℕ). before ++ take x (it ∷ after)) e)
       ∙ apply-append before (it ∷ take (j - suc (length before)) after) t
 
@@ -88,12 +85,14 @@ module _ (see : Words → View) (t : Words) (ss : List Store) (orderly : (j : �
 
     -- from an early moment to the table before the turn
     up-to : (i : ℕ) → i < T → Same l (w i) (see t₁)
-    up-to i g = same-trans l (w i) (see t) (see t₁) (same-sym l (see t) (w i) (early-at i g).same) (whole (QuietAt see l t) u.before t u.quiet).same
+    up-to i g = same-trans l (w i) (see t) (see t₁) (same-sym l (see t) (w i) (early-at i g).same)
+        (whole (QuietAt see l t) u.before t u.quiet).same
 
     over : (i j : ℕ) → i < T → T ≤ j → Lasts l (w i) (w j)
     over i j g h = record {
       level = λ n r. ((late-at j h).there n (u.crosses.row n ((up-to i g).there n r))).1;
-      fence = λ n r. let q = (up-to i g).there n r in (late-at j h).fence n (u.crosses.row n q) ∙ u.crosses.fence n q ∙ (up-to i g).fence n r;
+      fence = λ n r. let q =
+          (up-to i g).there n r in (late-at j h).fence n (u.crosses.row n q) ∙ u.crosses.fence n q ∙ (up-to i g).fence n r;
     }
 
     lasting : (i j : ℕ) → i ≤ j → Lasts l (w i) (w j)
@@ -117,7 +116,8 @@ module _ (see : Words → View) (t : Words) (ss : List Store) (orderly : (j : �
       turn = T;
       early = λ i j h g. early-same i j (omega arith) g;
       straight = λ i h. (early-at i h).straight;
-      crosses = λ i j k n g h s. same-comes (see t₂) (w j) orderly₂ (orderly j) l (late-at j h) k n (u.crosses.leads k n (same-stands (w i) (see t₁) (orderly i) orderly₁ l (up-to i g) k n s));
+      crosses = λ i j k n g h s. same-comes (see t₂) (w j) orderly₂ (orderly j) l (late-at j h) k n
+          (u.crosses.leads k n (same-stands (w i) (see t₁) (orderly i) orderly₁ l (up-to i g) k n s));
       late = λ i j h g. late-same i j h (omega arith);
       lasts = lasting;
       stays = staying;
@@ -137,7 +137,8 @@ module _ (see : Words → View) (t : Words) (ss : List Store) (orderly : (j : �
 
     end : (j : ℕ) → length u.before < j → apply (take j ss) t ≡ t₃
     unfolding apply
-    end j h = take-late t ss u.before u.it [] u.shape j h ∙ ap (λ (x : List Store). apply x t₃) (take-nil {A = Store} (j - suc (length u.before)))
+    end j h = take-late t ss u.before u.it [] u.shape j h
+        ∙ ap (λ (x : List Store). apply x t₃) (take-nil {A = Store} (j - suc (length u.before)))
 
     pub stores-skip : Skipping (λ (j : ℕ). see (apply (take j ss) t)) l
     stores-skip = record {

@@ -1,9 +1,5 @@
 -- Two looks of a search, at a node and at its sibling, the second perhaps at a later moment.
-use mathlib.Core.Path.{◌≡◌, refl, ap, sym, ◌∙◌}
-use mathlib.Core.Bool.{Bool, true, false, ◌||◌}
-use mathlib.Core.Logic.{◌≢◌, ◌⊎◌, inl, inr}
-use Prim.Native.Nat.{ℕ}
-use lib.Dec.{eqb, ltb}
+use Rattle.std.proofs.Common.{◌≡◌, ℕ, Bool, true, false, ◌||◌, eqb, ltb, ◌≢◌, ◌⊎◌, sym, refl, ap, ◌∙◌, inl, inr}
 use borrow.Author.Tests.{eqb-false}
 use Rattle.model.specs.Table.{in_range}
 use Rattle.model.specs.Slots.{NodeView, View}
@@ -35,7 +31,8 @@ module _ (x y : NodeView) (k : ℕ) where
   on-next n e = rw (e, stood_on)
 
 -- the tests, from what they ask
-pub seen-pass : (N l n : ℕ) (x y : NodeView) → in_range N n ≡ true → x.level ≡ l → (x.sibling ≢ 0 → (in_range N x.sibling ≡ true) × (y.level ≡ l)) → seen_pass N l n x y ≡ true
+pub seen-pass : (N l n : ℕ) (x y : NodeView) → in_range N n ≡ true → x.level ≡ l
+    → (x.sibling ≢ 0 → (in_range N x.sibling ≡ true) × (y.level ≡ l)) → seen_pass N l n x y ≡ true
 unfolding seen_pass seen_on on_level
 seen-pass N l n x y r e h = simp decode ((r, e), go (eqb x.sibling 0) refl)
   where

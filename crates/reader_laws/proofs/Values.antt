@@ -1,14 +1,8 @@
--- The values that stores give one word, one after another. Where none that was lost comes back, the word never returns to a value that it lost.
-use mathlib.Core.Path.{◌≡◌, refl, ap, sym, ◌∙◌}
-use mathlib.Core.Bool.{cond}
-use mathlib.Core.Logic.{◌≢◌, ◌⊎◌, inl, inr}
-use mathlib.Core.List.{List, [], ◌∷◌, ◌++◌, append-nil}
-use Prim.Native.Nat.{ℕ, zero, suc, ◌+◌, ◌≤◌, ◌<◌}
-use native.Mathlib.Omega.{arith}
-use lib.Dec.{eqb}
-use lib.ListN.{length, take, drop, length-set}
-use lib.Seq.{take-nil, get_or-set_same, get_or-set_other}
-use borrow.Author.Tests.{eq-eqb, ne_eqb}
+-- The values that stores give one word, one after another. Where none that was lost comes back, the word never returns to a value that it
+-- lost.
+use Rattle.std.proofs.Common.{◌≡◌, ℕ, zero, suc, ◌+◌, ◌<◌, ◌≤◌, cond, eqb, ◌≢◌, ◌⊎◌, List, [], ◌∷◌, ◌++◌, length, take, drop, sym, refl, ap}
+use Rattle.std.proofs.Common.{◌∙◌, inl, inr, append-nil, arith, length-set, get_or-set_other, get_or-set_same, eq-eqb, ne_eqb}
+use lib.Seq.{take-nil}
 use Rattle.model.specs.Table.{Words, at}
 use Rattle.model.specs.Orders.{Store, apply}
 use Rattle.list_laws.proofs.Lists.{cons-same}
@@ -35,7 +29,8 @@ unfolding values_to
 values-append w [] us = refl
 values-append w (s ∷ ss) us = go (same-or-not s.word w) (values-append w ss us)
   where
-    go : (s.word ≡ w) ⊎ (s.word ≢ w) → values_to w (ss ++ us) ≡ values_to w ss ++ values_to w us → values_to w (s ∷ ss ++ us) ≡ values_to w (s ∷ ss) ++ values_to w us
+    go : (s.word ≡ w) ⊎ (s.word ≢ w) → values_to w (ss ++ us) ≡ values_to w ss ++ values_to w us → values_to w (s ∷ ss ++ us)
+        ≡ values_to w (s ∷ ss) ++ values_to w us
     go (inl e) ih = rw (values-here w s (ss ++ us) e, values-here w s ss e) (ap (λ (l : List ℕ). s.value ∷ l) ih)
     go (inr z) ih = rw (values-past w s (ss ++ us) z, values-past w s ss z) ih
 
@@ -81,13 +76,15 @@ long : (w : ℕ) (s : Store) (t : Words) → w < length t → w < length (do_sto
 long w s t l = rw (length-set t s.word s.value) l
 
 -- what holds of the word and of each value stored to it holds at each moment
-pub each-value : (P : ℕ → Type 0) (w : ℕ) (ss : List Store) (c : ℕ) (t : Words) → w < length t → P (at t w) → Each P (values_to w ss) → P (at (apply (take c ss) t) w)
+pub each-value : (P : ℕ → Type 0) (w : ℕ) (ss : List Store) (c : ℕ) (t : Words) → w < length t → P (at t w) → Each P (values_to w ss)
+    → P (at (apply (take c ss) t) w)
 unfolding apply values_to
 each-value P w [] c t l p h = rw (take-nil {A = Store} c) p
 each-value P w (s ∷ ss) zero t l p h = p
 each-value P w (s ∷ ss) (suc c) t l p h = go (same-or-not s.word w) (each-value P w ss c (do_store s t) (long w s t l))
   where
-    go : (s.word ≡ w) ⊎ (s.word ≢ w) → (P (at (do_store s t) w) → Each P (values_to w ss) → P (at (apply (take c ss) (do_store s t)) w)) → P (at (apply (take c ss) (do_store s t)) w)
+    go : (s.word ≡ w) ⊎ (s.word ≢ w) → (P (at (do_store s t) w) → Each P (values_to w ss) → P (at (apply (take c ss) (do_store s t)) w))
+        → P (at (apply (take c ss) (do_store s t)) w)
     go (inl e) ih = let u : Each P (s.value ∷ values_to w ss) = rw (values-here w s ss e) at h in ih (rw (stored w s t l e) u.0) u.1
     go (inr z) ih = ih (rw (unstored w s t z) p) (rw (values-past w s ss z) at h)
 
@@ -97,7 +94,8 @@ unfolding apply values_to
 value-same w [] t e = refl
 value-same w (s ∷ ss) t e = go (same-or-not s.word w) (value-same w ss (do_store s t))
   where
-    go : (s.word ≡ w) ⊎ (s.word ≢ w) → (values_to w ss ≡ [] → at (apply ss (do_store s t)) w ≡ at (do_store s t) w) → at (apply ss (do_store s t)) w ≡ at t w
+    go : (s.word ≡ w) ⊎ (s.word ≢ w) → (values_to w ss ≡ [] → at (apply ss (do_store s t)) w ≡ at (do_store s t) w)
+        → at (apply ss (do_store s t)) w ≡ at t w
     go (inl q) ih = let n : length (s.value ∷ values_to w ss) ≡ 0 = ap length (sym (values-here w s ss q) ∙ e) in absurd (omega arith)
     go (inr z) ih = ih (sym (values-past w s ss z) ∙ e) ∙ unstored w s t z
 
@@ -108,11 +106,13 @@ value-one w v [] t l e = let n : length (v ∷ []) ≡ 0 = ap length (sym e) in 
 value-one w v (s ∷ ss) t l e = go (same-or-not s.word w) (value-one w v ss (do_store s t) (long w s t l))
   where
     go : (s.word ≡ w) ⊎ (s.word ≢ w) → (values_to w ss ≡ v ∷ [] → at (apply ss (do_store s t)) w ≡ v) → at (apply ss (do_store s t)) w ≡ v
-    go (inl q) ih = let u = cons-same s.value v (values_to w ss) [] (sym (values-here w s ss q) ∙ e) in value-same w ss (do_store s t) u.1 ∙ stored w s t l q ∙ u.0
+    go (inl q) ih = let u = cons-same s.value v (values_to w ss) [] (sym (values-here w s ss q) ∙ e) in value-same w ss (do_store s t) u.1
+        ∙ stored w s t l q ∙ u.0
     go (inr z) ih = ih (sym (values-past w s ss z) ∙ e)
 
 -- after one more store
-steady-next : (w : ℕ) (s : Store) (ss : List Store) (t : Words) → w < length t → Steady (at t w) (values_to w (s ∷ ss)) → Steady (at (do_store s t) w) (values_to w ss)
+steady-next : (w : ℕ) (s : Store) (ss : List Store) (t : Words) → w < length t → Steady (at t w) (values_to w (s ∷ ss))
+    → Steady (at (do_store s t) w) (values_to w ss)
 steady-next w s ss t l h = go (same-or-not s.word w)
   where
     go : (s.word ≡ w) ⊎ (s.word ≢ w) → Steady (at (do_store s t) w) (values_to w ss)
@@ -120,7 +120,8 @@ steady-next w s ss t l h = go (same-or-not s.word w)
     go (inr z) = rw (unstored w s t z) (rw (values-past w s ss z) at h)
 
 -- after some of the stores
-pub steady-drop : (a w : ℕ) (ss : List Store) (t : Words) → w < length t → Steady (at t w) (values_to w ss) → Steady (at (apply (take a ss) t) w) (values_to w (drop a ss))
+pub steady-drop : (a w : ℕ) (ss : List Store) (t : Words) → w < length t → Steady (at t w) (values_to w ss)
+    → Steady (at (apply (take a ss) t) w) (values_to w (drop a ss))
 unfolding apply values_to
 steady-drop zero w ss t l h = h
 steady-drop (suc a) w [] t l h = tt
@@ -137,7 +138,8 @@ drop-none (suc a) w (s ∷ ss) e = go (same-or-not s.word w) (drop-none a w ss)
     go (inr z) ih = ih (sym (values-past w s ss z) ∙ e)
 
 -- A word whose values are steady keeps the one it has at the start, if it has it at some moment later, until then.
-pub steady-back : (w : ℕ) (ss : List Store) (b c : ℕ) (t : Words) → w < length t → Steady (at t w) (values_to w ss) → b ≤ c → at t w ≡ at (apply (take c ss) t) w → at (apply (take b ss) t) w ≡ at t w
+pub steady-back : (w : ℕ) (ss : List Store) (b c : ℕ) (t : Words) → w < length t → Steady (at t w) (values_to w ss) → b ≤ c → at t w
+    ≡ at (apply (take c ss) t) w → at (apply (take b ss) t) w ≡ at t w
 unfolding apply
 steady-back w [] b c t l h i e = rw (take-nil {A = Store} b)
 steady-back w (s ∷ ss) zero c t l h i e = refl
@@ -145,7 +147,9 @@ steady-back w (s ∷ ss) (suc b) zero t l h i e = absurd (omega arith)
 steady-back w (s ∷ ss) (suc b) (suc c) t l h i e =
     go (same-or-not s.word w) (steady-back w ss b c (do_store s t) (long w s t l) (steady-next w s ss t l h) (omega arith))
   where
-    go : (s.word ≡ w) ⊎ (s.word ≢ w) → (at (do_store s t) w ≡ at (apply (take c ss) (do_store s t)) w → at (apply (take b ss) (do_store s t)) w ≡ at (do_store s t) w) → at (apply (take b ss) (do_store s t)) w ≡ at t w
+    go : (s.word ≡ w) ⊎ (s.word ≢ w)
+        → (at (do_store s t) w ≡ at (apply (take c ss) (do_store s t)) w → at (apply (take b ss) (do_store s t)) w ≡ at (do_store s t) w)
+        → at (apply (take b ss) (do_store s t)) w ≡ at t w
     go (inr z) ih = let q = unstored w s t z in ih (q ∙ e) ∙ q
     go (inl y) ih = by f.0
       where
@@ -161,7 +165,8 @@ steady-back w (s ∷ ss) (suc b) (suc c) t l h i e =
 pub steady-then : (w x : ℕ) (ss us : List Store) → values_to w us ≡ [] → Steady x (values_to w ss) → Steady x (values_to w (ss ++ us))
 steady-then w x ss us e h = rw (values-append w ss us, e, append-nil (values_to w ss)) h
 
-pub steady-after : (w : ℕ) (ss us : List Store) (t : Words) → values_to w ss ≡ [] → Steady (at (apply ss t) w) (values_to w us) → Steady (at t w) (values_to w (ss ++ us))
+pub steady-after : (w : ℕ) (ss us : List Store) (t : Words) → values_to w ss ≡ [] → Steady (at (apply ss t) w) (values_to w us)
+    → Steady (at t w) (values_to w (ss ++ us))
 steady-after w ss us t e h = rw (values-append w ss us, e) (rw (value-same w ss t e) at h)
 
 -- ---- stores to a stretch of words

@@ -1,10 +1,5 @@
 -- A class change after the shared tests: refused with 14 or 9, or accepted; and its store after the repair.
-use mathlib.Core.Path.{◌≡◌, refl, ap, sym, ◌∙◌}
-use mathlib.Core.Bool.{Bool, true, false}
-use mathlib.Core.List.{List, ◌++◌}
-use Prim.Native.Nat.{ℕ, ◌≤◌, ◌<◌}
-use native.Mathlib.Omega.{arith}
-use lib.ListN.{length}
+use Rattle.std.proofs.Common.{◌≡◌, ℕ, ◌<◌, ◌≤◌, Bool, true, false, List, ◌++◌, length, sym, refl, ap, ◌∙◌, arith}
 use Rattle.std.specs.Prelude.{Ok}
 use Rattle.model.specs.Table.{Words, at, header_ok, root_word, no_collection}
 use Rattle.model.specs.Slots.{class_ok, node_view, view_from}
@@ -28,7 +23,8 @@ use Rattle.write.proofs.Rooted.{root-sound, root-stands, root-key}
 
 -- ---- 14 and 9
 
-module _ (o k c words dock : ℕ) (t : Words) (s : Sound) (j : judged (no_collection o t) words dock t ≡ Ok s) {a : Bool} (q : a ≡ class_ok c) where
+module _ (o k c words dock : ℕ) (t : Words) (s : Sound) (j : judged (no_collection o t) words dock t ≡ Ok s) {a : Bool}
+    (q : a ≡ class_ok c) where
   abbrev p : Passed (class_change o k c) words dock t s.leftover s.reached
   p = judged-ready (class_change o k c) words dock t s j
 
@@ -48,7 +44,8 @@ module _ (o k c words dock : ℕ) (t : Words) (s : Sound) (j : judged (no_collec
       key-refused h = ready-number (class_change o k c) words dock t p ∙ rw (sym q ∙ y, sym has ∙ h)
 
       class-accepted : b ≡ true → refusal (class_change o k c) words dock t ≡ 0
-      class-accepted h = ready-accepted (class_change o k c) words dock t p (sym q ∙ y, ap (has_key k) (map-later o t p.found.is-sound p.collection) ∙ sym has ∙ h)
+      class-accepted h = ready-accepted (class_change o k c) words dock t p
+          (sym q ∙ y, ap (has_key k) (map-later o t p.found.is-sound p.collection) ∙ sym has ∙ h)
 
 -- ---- the stores: the repair, then the class in its leaf
 
@@ -60,15 +57,23 @@ unfolding stores_of class_stores
 class-stores o t k c = refl
 
 -- an accepted class change, from its first pen on
-pub begun : (o k c dock : ℕ) {d : Desk} (s : Sound) {a : Bool} {r : ℕ} {b : Bool} → judged (no_collection o d.table) (length d.list) dock d.table ≡ Ok s
-    → a ≡ class_ok c → a ≡ true → r ≡ at d.table (root_word o) → b ≡ has_key k (mapping (view_from d.table r)) → b ≡ true → d.pen ≡ first_pen dock
+pub begun : (o k c dock : ℕ) {d : Desk} (s : Sound) {a : Bool} {r : ℕ} {b : Bool}
+    → judged (no_collection o d.table) (length d.list) dock d.table ≡ Ok s
+    → a ≡ class_ok c → a ≡ true → r ≡ at d.table (root_word o) → b ≡ has_key k (mapping (view_from d.table r)) → b ≡ true
+    → d.pen ≡ first_pen dock
     → Begun (class_change o k c) dock d (classed o k c)
 begun o k c dock {d} s j q y f e h g =
     let p = judged-ready (class_change o k c) (length d.list) dock d.table s j in
-    record { is-sound = p.found.is-sound; accepted = class-accepted o k c (length d.list) dock d.table s j q y f e h; first = g; stores = class-stores o d.table k c }
+    record {
+      is-sound = p.found.is-sound;
+      accepted = class-accepted o k c (length d.list) dock d.table s j q y f e h;
+      first = g;
+      stores = class-stores o d.table k c;
+    }
 
 -- the repair is made
-module _ {o k c dock : ℕ} {w v : Writer} (b : Begun (class_change o k c) dock (of w) (classed o k c)) (g : Makes (repair_stores w.table.now) w v) where
+module _ {o k c dock : ℕ} {w v : Writer} (b : Begun (class_change o k c) dock (of w) (classed o k c))
+    (g : Makes (repair_stores w.table.now) w v) where
   pub class-low : c ≤ 2
   class-low = (class-iff c).0 (begun-allows b).0
 

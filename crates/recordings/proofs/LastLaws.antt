@@ -1,11 +1,6 @@
 -- Numbers passed over from above: a word of marks that is 0.
-use mathlib.Core.Path.{◌≡◌, ap, ◌∙◌}
-use Prim.Native.Nat.{ℕ, ◌+◌, ◌/◌, ◌%◌, ◌^◌}
-use native.Mathlib.Omega.{arith}
+use Rattle.std.proofs.Common.{◌≡◌, ℕ, ◌+◌, ◌/◌, ◌%◌, ◌^◌, eqb, get_or, ap, ◌∙◌, arith, pow_pos}
 use native.Mathlib.Nat.{div-eq_of_lt}
-use lib.Pow.{pow_pos}
-use lib.Dec.{eqb}
-use lib.ListN.{get_or}
 use Rattle.model.specs.Table.{Words}
 use Rattle.bits.specs.Bits.{has}
 use Rattle.recordings.specs.Marked.{NoneOf}

@@ -1,11 +1,7 @@
 -- One leaf, a slot in use more: ranges, hits and entries; and the leaf that is read.
-use mathlib.Core.Path.{◌≡◌, refl, ap, sym, ◌∙◌}
-use mathlib.Core.Bool.{Bool, true, false, ◌&&◌}
-use mathlib.Core.List.{List, [], ◌∷◌, map, tail}
-use Prim.Native.Nat.{ℕ, zero, suc, ◌+◌, ◌-◌, ◌≤◌}
-use native.Mathlib.Omega.{arith}
-use lib.ListN.{length, get_or, take, drop}
-use lib.Seq.{drop-cons}
+use Rattle.std.proofs.Common.{◌≡◌, ℕ, zero, suc, ◌+◌, ◌-◌, ◌≤◌, Bool, true, false, ◌&&◌, eqb, List, [], ◌∷◌, map, length, get_or, take}
+use Rattle.std.proofs.Common.{drop, sym, refl, ap, ◌∙◌, arith, drop-cons}
+use mathlib.Core.List.{tail}
 use Rattle.model.specs.declared.Node.{Node}
 use Rattle.model.specs.Table.{Words, node}
 use Rattle.model.specs.Slots.{Slot, slot, shown, used, recording_of, recording, pointer_ok, view}
@@ -14,7 +10,6 @@ use Rattle.model.specs.Reached.{filter, kept}
 use Rattle.model.specs.SoundTest.{all, pair_ok}
 use Rattle.node.specs.Word.{word_of}
 use Rattle.node.proofs.WordLaws.{word-level, word-fence}
-use lib.Dec.{eqb}
 use Rattle.std.specs.Option.{option_eq}
 use Rattle.std.specs.Prelude.{Option, None, Some, Ok, Err}
 use Rattle.numbers.specs.declared.Stop.{Stop}
@@ -47,13 +42,15 @@ module _ (t : Words) (m : Marks) (n : ℕ) where
   unfolding own
   none-own b e z = sym (rw (sym e ∙ z))
 
-  pub leaf-read : (x : Node) (b : ℕ) → x ≡ node t n → is_leaf (view t) m n ≡ true → b ≡ word_of t x.sibling 3 → is_one m.uncut n ≡ true → kept_in (leaf_of x b) ≡ own (view t) m n
+  pub leaf-read : (x : Node) (b : ℕ) → x ≡ node t n → is_leaf (view t) m n ≡ true → b ≡ word_of t x.sibling 3 → is_one m.uncut n ≡ true
+      → kept_in (leaf_of x b) ≡ own (view t) m n
   unfolding own used kept below keeps
   leaf-read x b e h q u =
       ap (λ (y : ℕ). kept_in (leaf_of x y)) q ∙ ap (λ (y : Node). kept_in (leaf_of y (word_of t y.sibling 3))) e
       ∙ ap (λ (y : ℕ). kept_in (leaf_of (node t n) y)) (word-fence t (node t n).sibling) ∙ sym (rw (h, u))
 
-  pub leaf-whole : (x : Node) (b : ℕ) → x ≡ node t n → is_leaf (view t) m n ≡ true → is_one m.uncut n ≡ false → kept_of 0 b (shown_from x.left x.slots 0) ≡ own (view t) m n
+  pub leaf-whole : (x : Node) (b : ℕ) → x ≡ node t n → is_leaf (view t) m n ≡ true → is_one m.uncut n ≡ false
+      → kept_of 0 b (shown_from x.left x.slots 0) ≡ own (view t) m n
   unfolding own used
   leaf-whole x b e h u = all-kept b (shown_from x.left x.slots 0) ∙ ap (λ (y : Node). shown_from y.left y.slots 0) e ∙ sym (rw (h, u))
 
@@ -67,7 +64,9 @@ same-one (Some x) n = refl
 numbers-taken : (ks ps : Words) (i m : ℕ) → i + m ≤ length ps → map recording_of (take m (drop i ps)) ≡ map recording (span ks ps i m)
 unfolding span
 numbers-taken ks ps i zero h = refl
-numbers-taken ks ps i (suc m) h = rw (drop-cons ps i 0 (omega arith)) (ap (λ (ns : List ℕ). recording_of (get_or ps i 0) ∷ ns) (numbers-taken ks ps (suc i) m (omega arith)))
+numbers-taken ks ps i (suc m) h =
+    rw (drop-cons ps i 0 (omega arith))
+    (ap (λ (ns : List ℕ). recording_of (get_or ps i 0) ∷ ns) (numbers-taken ks ps (suc i) m (omega arith)))
 
 module _ (x : Leaf) (w : Ways) (is : slots_in w ≡ slot x.node.fence x.node.left ∷ kept_in x) where
   -- `some-way` of leaves/HitLaws is of the ways that a table lists for a node; a leaf by value has no table
@@ -134,7 +133,8 @@ module _ (s b before k p : ℕ) (ss : List Slot) (w : Bool) (e : w ≡ is_way s 
         ap (λ (xs : List Slot). hit_all q place (map recording xs) h) (kept-taken s b before k p ss e y)
         ∙ ap (hit_all q place (map recording rest)) (sym (f ∙ ap (λ (m : ℕ). hit_if q place m h) i))
 
-    module _ (q : ℕ → Bool) (cs : Words) (a : Entry) (after : Words) (n : ℕ) (i : n ≡ recording_of p) (f : outcome a after ≡ entered_if q cs n) where
+    module _ (q : ℕ → Bool) (cs : Words) (a : Entry) (after : Words) (n : ℕ) (i : n ≡ recording_of p)
+        (f : outcome a after ≡ entered_if q cs n) where
       enter-more : entered_all q (map recording all-slots) cs ≡ followed (outcome a after) (entered_all q (map recording rest))
       unfolding entered_all
       enter-more =

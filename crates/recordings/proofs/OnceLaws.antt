@@ -1,11 +1,7 @@
 -- The numbers of a leaf, each compared with those after it.
-use mathlib.Core.Path.{◌≡◌, refl, ap, ap₂, sym, ◌∙◌}
-use mathlib.Core.Bool.{Bool, true, false, not, ◌&&◌, ◌||◌}
-use mathlib.Core.List.{List, [], ◌∷◌, map, tail}
-use Prim.Native.Nat.{ℕ, suc, ◌+◌, ◌-◌}
-use native.Mathlib.Omega.{arith}
-use lib.Dec.{eqb}
-use lib.ListN.{length, length-drop, take, drop}
+use Rattle.std.proofs.Common.{◌≡◌, ℕ, suc, ◌+◌, ◌-◌, Bool, true, false, not, ◌&&◌, ◌||◌, eqb, List, [], ◌∷◌, map, length, take, drop, sym}
+use Rattle.std.proofs.Common.{refl, ap, ◌∙◌, ap₂, arith, length-drop}
+use mathlib.Core.List.{tail}
 use Rattle.std.specs.List.{list_any, list_all, enumerate_from}
 use Rattle.std.proofs.lemmas.List.{drop_more, take_rest}
 use Rattle.model.specs.Table.{Words}
@@ -31,7 +27,8 @@ any-elem r (p ∷ ps) = rw (eqb-sym (recording_of p) r, any-elem r ps)
 -- each pointer, with its place among ps: its number against those after it and against ys
 module _ (ps ys : Words) where
   abbrev pub apart : ℕ × ℕ → Bool
-  apart x = not (elem (recording_of x.1) (map recording_of (take (length ps - (x.0 + 1)) (drop (x.0 + 1) ps)))) && not (elem (recording_of x.1) ys)
+  apart x = not (elem (recording_of x.1) (map recording_of (take (length ps - (x.0 + 1)) (drop (x.0 + 1) ps)))) && not
+      (elem (recording_of x.1) ys)
 
   once-here : (a b c : Bool) → (not a && not b && c) ≡ (not (a || b) && c)
   once-here true b c = refl
@@ -43,6 +40,7 @@ module _ (ps ys : Words) where
   once-places (q ∷ qs) i e =
       let long : length ps - i ≡ suc (length qs) = sym (length-drop i ps) ∙ ap length e in
       let later : drop (i + 1) ps ≡ qs = ap tail (sym (drop_more ps i 0 (omega arith)) ∙ e) in
-      ap₂ (λ (ns : Words) (b : Bool). not (elem (recording_of q) (map recording_of ns)) && not (elem (recording_of q) ys) && b) (take_rest ps (i + 1) ∙ later) (once-places qs (i + 1) later)
+      ap₂ (λ (ns : Words) (b : Bool). not (elem (recording_of q) (map recording_of ns)) && not (elem (recording_of q) ys) && b)
+      (take_rest ps (i + 1) ∙ later) (once-places qs (i + 1) later)
       ∙ once-here (elem (recording_of q) (map recording_of qs)) (elem (recording_of q) ys) (once_before (map recording_of qs) ys)
       ∙ sym (ap (λ (a : Bool). not a && once_before (map recording_of qs) ys) (elem-join (recording_of q) (map recording_of qs) ys))

@@ -1,14 +1,8 @@
 -- What is there twice stays a suspect, round by round; where no place is hit twice, nothing is there twice.
-use mathlib.Core.Path.{◌≡◌, refl, ap, sym, ◌∙◌}
-use mathlib.Core.Bool.{Bool, true, false, cond, not, ◌&&◌, ◌||◌, or-true, or-false, false≢true}
-use mathlib.Core.Logic.{◌≢◌, ⊎_elim}
-use mathlib.Core.List.{List, [], ◌∷◌}
-use Prim.Native.Nat.{ℕ, zero, suc, ◌+◌, ◌-◌, ◌*◌, ◌/◌, ◌%◌, ◌≤◌, ◌<◌}
-use native.Mathlib.Omega.{arith}
-use native.Mathlib.Nat.{mod-lt}
-use lib.Dec.{eqb}
-use lib.ListN.{length, replicate, length-replicate}
-use borrow.Author.Tests.{eqb-true, eq-eqb, ne_eqb}
+use Rattle.std.proofs.Common.{◌≡◌, ℕ, zero, suc, ◌+◌, ◌-◌, ◌*◌, ◌/◌, ◌%◌, ◌<◌, ◌≤◌, Bool, true, false, cond, not, ◌&&◌, ◌||◌, eqb, ◌≢◌}
+use Rattle.std.proofs.Common.{List, [], ◌∷◌, length, replicate, sym, refl, ap, ◌∙◌, ⊎_elim, mod-lt, arith, eq-eqb, ne_eqb, eqb-true}
+use mathlib.Core.Bool.{or-true, or-false, false≢true}
+use lib.ListN.{length-replicate}
 use Rattle.model.specs.Table.{Words}
 use Rattle.model.specs.Reached.{filter}
 use Rattle.model.specs.SoundTest.{elem, distinct}
@@ -19,7 +13,8 @@ use Rattle.numbers.specs.Cells.{CELLS, Entry, outcome, entered_all, Tells}
 use Rattle.numbers.proofs.Once.{tells-same, all-tells}
 use Rattle.bits.specs.Bits.{has, put}
 use Rattle.bits.proofs.Marks.{has-put-same, has-put-other, put-length}
-use Rattle.recordings.specs.Rounds.{PLACES, ONCE, TWICE, prime_of, place_of, Hits, hits, or_before, hit, hit_if, hit_all, suspect, again, Stays}
+use Rattle.recordings.specs.Rounds.{PLACES, ONCE, TWICE, prime_of, place_of, Hits, hits, or_before, hit, hit_if, hit_all, suspect, again}
+use Rattle.recordings.specs.Rounds.{Stays}
 
 -- ---- places
 
@@ -121,7 +116,8 @@ hit-before : (y : ℕ) (c : Bool) (h : Hits) → hit y (or_before c h) ≡ or_be
 hit-before y c h = go (has h.once y) refl
   where
     go : (b : Bool) → has h.once y ≡ b → hit y (or_before c h) ≡ or_before c (hit y h)
-    go true e = hit-later y (or_before c h) e ∙ sym (ap (or_before c) (hit-later y h e) ∙ ap (hits h.once (put h.twice (y / 2))) (or-true c))
+    go true e = hit-later y (or_before c h) e
+        ∙ sym (ap (or_before c) (hit-later y h e) ∙ ap (hits h.once (put h.twice (y / 2))) (or-true c))
     go false e = hit-first y (or_before c h) e ∙ sym (ap (or_before c) (hit-first y h e))
 
 module _ (q : ℕ → Bool) (place : ℕ → ℕ) (x : ℕ) (h : Hits) where
@@ -150,10 +146,12 @@ module _ (q : ℕ → Bool) (place : ℕ → ℕ) where
     none-before : or_before c (hits once twice false) ≡ hits once twice c
     none-before = ap (hits once twice) (or-false c)
 
-    pub if-joined : (x : ℕ) → hits o t r ≡ hit_if q place x (hits once twice false) → hits o t (c || r) ≡ hit_if q place x (hits once twice c)
+    pub if-joined : (x : ℕ) → hits o t r ≡ hit_if q place x (hits once twice false) → hits o t (c || r)
+        ≡ hit_if q place x (hits once twice c)
     if-joined x e = ap (or_before c) e ∙ sym (if-before x c (hits once twice false)) ∙ ap (hit_if q place x) none-before
 
-    pub all-joined : (xs : List ℕ) → hits o t r ≡ hit_all q place xs (hits once twice false) → hits o t (c || r) ≡ hit_all q place xs (hits once twice c)
+    pub all-joined : (xs : List ℕ) → hits o t r ≡ hit_all q place xs (hits once twice false) → hits o t (c || r)
+        ≡ hit_all q place xs (hits once twice c)
     all-joined xs e = ap (or_before c) e ∙ sym (all-before xs c (hits once twice false)) ∙ ap (hit_all q place xs) none-before
 
 module _ (q : ℕ → Bool) (place : ℕ → ℕ) (low : (x : ℕ) → place x < PLACES) where
@@ -171,21 +169,26 @@ module _ (q : ℕ → Bool) (place : ℕ → ℕ) (low : (x : ℕ) → place x <
   all-keeps : (y : ℕ) (xs : List ℕ) (h : Hits) → Wide h → Caught y h → Caught y (hit_all q place xs h)
   unfolding hit_all
   all-keeps y [] h w k = k
-  all-keeps y (x ∷ xs) h w k = all-keeps y xs (hit_if q place x h) (if-wide x h w) (if-cases (Caught y) x h k (λ e. caught-keeps (place x) (low x) h w y k))
+  all-keeps y (x ∷ xs) h w k =
+      all-keeps y xs (hit_if q place x h) (if-wide x h w) (if-cases (Caught y) x h k (λ e. caught-keeps (place x) (low x) h w y k))
 
   -- a suspect whose place was hit before is caught
-  caught-elem : (x : ℕ) → q x ≡ true → (xs : List ℕ) (h : Hits) → Wide h → Hit (place x) h → elem x xs ≡ true → Caught (place x) (hit_all q place xs h)
+  caught-elem : (x : ℕ) → q x ≡ true → (xs : List ℕ) (h : Hits) → Wide h → Hit (place x) h → elem x xs ≡ true
+      → Caught (place x) (hit_all q place xs h)
   unfolding hit_all elem
   caught-elem x s [] h w k e = absurd (false≢true e)
   caught-elem x s (y ∷ ys) h w k e = go (eqb x y) refl e (caught-elem x s ys)
     where
-      go : (b : Bool) → eqb x y ≡ b → (b || elem x ys) ≡ true → ((h : Hits) → Wide h → Hit (place x) h → elem x ys ≡ true → Caught (place x) (hit_all q place ys h)) → Caught (place x) (hit_all q place ys (hit_if q place y h))
+      go : (b : Bool) → eqb x y ≡ b → (b || elem x ys) ≡ true
+          → ((h : Hits) → Wide h → Hit (place x) h → elem x ys ≡ true → Caught (place x) (hit_all q place ys h))
+          → Caught (place x) (hit_all q place ys (hit_if q place y h))
       go true c e ih =
           let z : x ≡ y = eqb-true x y c in
           let m : q y ≡ true = rw z at s in
           let n : Caught (place x) (hit_if q place y h) = rw (if-yes q place y h m, ← z) (hit-again (place x) (low x) h w k) in
           all-keeps (place x) ys (hit_if q place y h) (if-wide y h w) n
-      go false c e ih = ih (hit_if q place y h) (if-wide y h w) (if-cases (Hit (place x)) y h k (λ m. hit-keeps (place y) (low y) h w (place x) k)) e
+      go false c e ih = ih (hit_if q place y h) (if-wide y h w)
+          (if-cases (Hit (place x)) y h k (λ m. hit-keeps (place y) (low y) h w (place x) k)) e
 
   -- a suspect that is there twice is caught
   caught : (x : ℕ) → q x ≡ true → (xs : List ℕ) (h : Hits) → Wide h → again x xs ≡ true → Caught (place x) (hit_all q place xs h)
@@ -193,7 +196,9 @@ module _ (q : ℕ → Bool) (place : ℕ → ℕ) (low : (x : ℕ) → place x <
   caught x s [] h w e = absurd (false≢true e)
   caught x s (y ∷ ys) h w e = go (eqb x y && elem x ys) refl e (caught x s ys)
     where
-      go : (b : Bool) → (eqb x y && elem x ys) ≡ b → (b || again x ys) ≡ true → ((h : Hits) → Wide h → again x ys ≡ true → Caught (place x) (hit_all q place ys h)) → Caught (place x) (hit_all q place ys (hit_if q place y h))
+      go : (b : Bool) → (eqb x y && elem x ys) ≡ b → (b || again x ys) ≡ true
+          → ((h : Hits) → Wide h → again x ys ≡ true → Caught (place x) (hit_all q place ys h))
+          → Caught (place x) (hit_all q place ys (hit_if q place y h))
       go true c e ih =
           let u = (and-iff (eqb x y) (elem x ys)).0 c in
           let z : x ≡ y = eqb-true x y u.0 in
@@ -215,7 +220,8 @@ again-here x ys e = or-left (eqb x x && elem x ys) (again x ys) ((and-iff (eqb x
 -- numbers of which none is there twice are different
 pub none-again : (xs : List ℕ) → ((x : ℕ) → again x xs ≡ true → ⊥) → distinct xs ≡ true
 none-again [] h = unfold distinct in refl
-none-again (x ∷ xs) h = (distinct-cons x xs).1 (refuted (elem x xs) (λ e. h x (again-here x xs e)), none-again xs (λ y e. h y (again-cons y x xs e)))
+none-again (x ∷ xs) h =
+    (distinct-cons x xs).1 (refuted (elem x xs) (λ e. h x (again-here x xs e)), none-again xs (λ y e. h y (again-cons y x xs e)))
 
 distinct-step : (x : ℕ) (xs : List ℕ) → distinct (x ∷ xs) ≡ (not (elem x xs) && distinct xs)
 unfolding distinct
@@ -229,7 +235,8 @@ stays-distinct p (x ∷ xs) s = go (p x) refl (stays-distinct p xs (λ y e. s y 
   where
     go : (b : Bool) → p x ≡ b → distinct (filter p xs) ≡ distinct xs → distinct (filter p (x ∷ xs)) ≡ distinct (x ∷ xs)
     go true e ih =
-        ap distinct (filter-yes p x xs e) ∙ distinct-step x (filter p xs) ∙ ap (λ (b : Bool). not b && distinct (filter p xs)) (elem-filter p x xs e)
+        ap distinct (filter-yes p x xs e) ∙ distinct-step x (filter p xs)
+        ∙ ap (λ (b : Bool). not b && distinct (filter p xs)) (elem-filter p x xs e)
         ∙ ap (λ (b : Bool). not (elem x xs) && b) ih ∙ sym (distinct-step x xs)
     go false e ih =
         let once : elem x xs ≡ false = refuted (elem x xs) (λ k. false≢true (sym e ∙ s x (again-here x xs k))) in
@@ -245,9 +252,11 @@ suspect-next : (k : ℕ) (ws : Words) (x : ℕ) → suspect (k + 1) ws x ≡ has
 unfolding suspect
 suspect-next k ws x =
     let z : k + 1 - 1 ≡ k = omega arith in
-    ap (λ (b : Bool). cond b true (has ws (place_of (k + 1 - 1) x / 2))) (ne_eqb (k + 1) 0 (λ e. omega arith)) ∙ ap (λ (i : ℕ). has ws (place_of i x / 2)) z
+    ap (λ (b : Bool). cond b true (has ws (place_of (k + 1 - 1) x / 2))) (ne_eqb (k + 1) 0 (λ e. omega arith))
+    ∙ ap (λ (i : ℕ). has ws (place_of i x / 2)) z
 
-module _ (k : ℕ) (olds : Words) (xs : List ℕ) (s : Stays (suspect k olds) xs) (h : Hits) (e : h ≡ hit_all (suspect k olds) (place_of k) xs (hits (replicate ONCE 0) (replicate TWICE 0) false)) where
+module _ (k : ℕ) (olds : Words) (xs : List ℕ) (s : Stays (suspect k olds) xs) (h : Hits)
+    (e : h ≡ hit_all (suspect k olds) (place_of k) xs (hits (replicate ONCE 0) (replicate TWICE 0) false)) where
   all-caught : (x : ℕ) → again x xs ≡ true → Caught (place_of k x) h
   all-caught x a =
       rw e
@@ -265,12 +274,15 @@ module _ (k : ℕ) (olds : Words) (xs : List ℕ) (s : Stays (suspect k olds) xs
 -- ---- a round, then the cells, as the code meets them
 
 -- words that were made 0
-pub from-zero : (q : ℕ → Bool) (place : ℕ → ℕ) (xs : List ℕ) (a b once twice : Words) (h : Hits) → length a ≡ ONCE → length b ≡ TWICE → once ≡ replicate (length a) 0 → twice ≡ replicate (length b) 0
+pub from-zero : (q : ℕ → Bool) (place : ℕ → ℕ) (xs : List ℕ) (a b once twice : Words) (h : Hits) → length a ≡ ONCE → length b ≡ TWICE → once
+    ≡ replicate (length a) 0 → twice ≡ replicate (length b) 0
     → h ≡ hit_all q place xs (hits once twice false) → h ≡ hit_all q place xs (hits (replicate ONCE 0) (replicate TWICE 0) false)
 from-zero q place xs a b once twice h l m e f i =
     i ∙ ap (λ (ws : Words). hit_all q place xs (hits ws twice false)) (e ∙ ap (λ (n : ℕ). replicate n 0) l)
     ∙ ap (λ (ws : Words). hit_all q place xs (hits (replicate ONCE 0) ws false)) (f ∙ ap (λ (n : ℕ). replicate n 0) m)
 
-pub cells-tell : (p : ℕ → Bool) (xs : List ℕ) → Stays p xs → (a cells after : Words) (r : Entry) → length a ≡ CELLS → cells ≡ replicate (length a) 0 → outcome r after ≡ entered_all p xs cells → Tells r xs
+pub cells-tell : (p : ℕ → Bool) (xs : List ℕ) → Stays p xs → (a cells after : Words) (r : Entry) → length a ≡ CELLS → cells
+    ≡ replicate (length a) 0 → outcome r after ≡ entered_all p xs cells → Tells r xs
 cells-tell p xs s a cells after r l e i =
-    tells-same r (filter p xs) xs (stays-distinct p xs s) (all-tells p xs r after (i ∙ ap (entered_all p xs) (e ∙ ap (λ (n : ℕ). replicate n 0) l)))
+    tells-same r (filter p xs) xs (stays-distinct p xs s)
+    (all-tells p xs r after (i ∙ ap (entered_all p xs) (e ∙ ap (λ (n : ℕ). replicate n 0) l)))

@@ -1,12 +1,6 @@
 -- The nodes of both collections, one after the other; and their reports.
-use mathlib.Core.Path.{◌≡◌, refl, ap, sym, subst, ◌∙◌}
-use mathlib.Core.Logic.{◌≢◌}
-use mathlib.Core.List.{List, [], ◌∷◌, ◌++◌, append_assoc}
-use Prim.Native.Nat.{ℕ, suc, ◌+◌, ◌-◌, ◌*◌, ◌≤◌}
-use native.Mathlib.Omega.{arith}
-use lib.ListN.{length, take, drop, replicate, length-append}
-use lib.Seq.{take_at, drop_at, drop-drop}
-use borrow.Author.Tests.{ne_eqb}
+use Rattle.std.proofs.Common.{◌≡◌, ℕ, suc, ◌+◌, ◌-◌, ◌*◌, ◌≤◌, ◌≢◌, List, [], ◌∷◌, ◌++◌, length, take, drop, replicate, sym, refl, ap, ◌∙◌}
+use Rattle.std.proofs.Common.{subst, append_assoc, arith, length-append, drop-drop, take_at, drop_at, ne_eqb}
 use Rattle.model.specs.Table.{Words, at, nodes}
 use Rattle.model.specs.Slots.{Slot}
 use Rattle.model.specs.Reached.{Maps}
@@ -40,7 +34,8 @@ module _ (r r₁ : Words) (ds : List Drop) (d : ℕ) (a : Reported r r₁ ds d) 
   rest-of : rest ≡ drop (3 * d) r
   rest-of = rest-is r₁ (3 * d) ∙ ap (drop (3 * d)) a.1 ∙ drop_at (drop_words ds) (drop (3 * d) r) (3 * d) written
 
-  pub reported-both : (r₂ : Words) (es : List Drop) (e : ℕ) → Reported rest r₂ es e → Reported r (take (3 * d) r₁ ++ (r₂ ++ drop (length r₁ - 3 * d) (drop (3 * d) r₁))) (ds ++ es) (d + e)
+  pub reported-both : (r₂ : Words) (es : List Drop) (e : ℕ) → Reported rest r₂ es e
+      → Reported r (take (3 * d) r₁ ++ (r₂ ++ drop (length r₁ - 3 * d) (drop (3 * d) r₁))) (ds ++ es) (d + e)
   reported-both r₂ es e b =
       let i : 3 * d + 3 * e ≡ 3 * (d + e) = omega arith in (
         (let x = a.0 in let y = b.0 in let z = length-append ds es in omega arith),
@@ -92,7 +87,8 @@ module _ (t firsts seconds : Words) (o : Toured t firsts seconds) (a b : ℕ) (m
     w-is : w₁ ≡ packed_words 1 ps ++ replicate (32 * ((nodes t) - packed_count ps)) 0
     w-is =
         let z : 0 + packed_count ps ≡ packed_count ps = omega arith in
-        e ∙ ap (λ (g : Gathered). packed_after 0 (nodes t) words g.kept) (one-gathered t firsts seconds o) ∙ ap (λ (k : ℕ). packed_words 1 ps ++ replicate (32 * ((nodes t) - k)) 0) z
+        e ∙ ap (λ (g : Gathered). packed_after 0 (nodes t) words g.kept) (one-gathered t firsts seconds o)
+        ∙ ap (λ (k : ℕ). packed_words 1 ps ++ replicate (32 * ((nodes t) - k)) 0) z
 
     root-is : root ≡ packed_count ps
     root-is = q ∙ ap (λ (g : Gathered). 0 + packed_count g.kept) (one-gathered t firsts seconds o) ∙ omega arith
@@ -103,7 +99,8 @@ module _ (t firsts seconds : Words) (o : Toured t firsts seconds) (a b : ℕ) (m
     -- what the parts of the new table come to
     abbrev Filled : (words report : Words) (root second n : ℕ) → Type 0
     Filled w r root₁ second n =
-        (w ≡ packed_nodes (nodes t) (kept_maps t)) × (((root₁ ≡ packed_count (kept_maps t).one) × (second ≡ second_root (kept_maps t))) × Reported report r (dropped_all t) n)
+        (w ≡ packed_nodes (nodes t) (kept_maps t))
+        × (((root₁ ≡ packed_count (kept_maps t).one) × (second ≡ second_root (kept_maps t))) × Reported report r (dropped_all t) n)
 
     -- without collection 2
     pub alone-filled : at t 3 ≡ 0 → Filled w₁ r₁ root 0 d
@@ -142,7 +139,8 @@ module _ (t firsts seconds : Words) (o : Toured t firsts seconds) (a b : ℕ) (m
           }
 
       -- after the second
-      module _ (w₂ r₂ : Words) (root₂ d₂ : ℕ) (x : w₂ ≡ packed_after root (nodes t) w₁ (gathered_along t seconds).kept) (y : root₂ ≡ root + packed_count (gathered_along t seconds).kept)
+      module _ (w₂ r₂ : Words) (root₂ d₂ : ℕ) (x : w₂ ≡ packed_after root (nodes t) w₁ (gathered_along t seconds).kept)
+          (y : root₂ ≡ root + packed_count (gathered_along t seconds).kept)
           (rep₂ : Reported part r₂ (gathered_along t seconds).dropped d₂) where
         abbrev c : ℕ
         c = packed_count ps
@@ -156,7 +154,8 @@ module _ (t firsts seconds : Words) (o : Toured t firsts seconds) (a b : ℕ) (m
         words-are : w₂ ≡ packed_words 1 ps ++ tail
         words-are =
             x ∙ ap (λ (g : Gathered). packed_after root (nodes t) w₁ g.kept) two ∙ ap (λ (k : ℕ). packed_after k (nodes t) w₁ qs) root-is
-            ∙ ap (λ (l : Words). l ++ tail) (ap (take (32 * c)) w-is ∙ take_at (packed_words 1 ps) (replicate (32 * ((nodes t) - c)) 0) (32 * c) (words-long 1 ps))
+            ∙ ap (λ (l : Words). l ++ tail)
+            (ap (take (32 * c)) w-is ∙ take_at (packed_words 1 ps) (replicate (32 * ((nodes t) - c)) 0) (32 * c) (words-long 1 ps))
 
         second-is : root₂ ≡ c + packed_count qs
         second-is = y ∙ ap (λ (g : Gathered). root + packed_count g.kept) two ∙ ap (λ (k : ℕ). k + packed_count qs) root-is

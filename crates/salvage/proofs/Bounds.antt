@@ -1,12 +1,6 @@
 -- How many nodes the pairs kept need, and bounds of it.
-use mathlib.Core.Path.{◌≡◌, ap, sym, ◌∙◌}
-use mathlib.Core.Bool.{Bool, true, false, cond}
-use mathlib.Core.Logic.{◌≢◌}
-use Prim.Native.Nat.{ℕ, ◌+◌, ◌*◌, ◌≤◌, ◌<◌}
-use native.Mathlib.Omega.{arith}
-use lib.Dec.{eqb, ltb}
-use lib.ListN.{length}
-use borrow.Author.Tests.{eq-eqb, ne_eqb, lt-ltb, le-ltb}
+use Rattle.std.proofs.Common.{◌≡◌, ℕ, ◌+◌, ◌*◌, ◌<◌, ◌≤◌, Bool, true, false, cond, eqb, ltb, ◌≢◌, length, sym, ap, ◌∙◌, arith, le-ltb}
+use Rattle.std.proofs.Common.{lt-ltb, eq-eqb, ne_eqb}
 use Rattle.model.specs.Table.{Words, at, nodes}
 use Rattle.model.specs.Reached.{unless_lacking}
 use Rattle.model.specs.Packing.{packed_count, of_second, packed_both}
@@ -22,7 +16,8 @@ pub needed-alone : (t : Words) (a b first : ℕ) → first ≡ nodes_needed a �
 unfolding needed_both
 needed-alone t a b first e z = rw (eq-eqb (at t 3) 0 z) (omega (arith, e))
 
-pub needed-beside : (t : Words) (a b first second : ℕ) → first ≡ nodes_needed a → second ≡ nodes_needed b → at t 3 ≢ 0 → first + second ≡ needed_both t a b
+pub needed-beside : (t : Words) (a b first second : ℕ) → first ≡ nodes_needed a → second ≡ nodes_needed b → at t 3 ≢ 0
+    → first + second ≡ needed_both t a b
 unfolding needed_both
 needed-beside t a b first second e f z = rw (ne_eqb (at t 3) 0 z, e, f)
 
@@ -30,7 +25,8 @@ kept-needed : (t : Words) → packed_both (kept_maps t) ≡ needed_both t (lengt
 unfolding packed_both kept_maps needed_both
 kept-needed t = go (eqb (at t 3) 0)
   where
-    go : (b : Bool) → packed_count (gathered 1 t).kept + of_second 0 packed_count (unless_lacking b (gathered 2 t).kept) ≡ nodes_needed (length (gathered 1 t).kept) + cond b 0 (nodes_needed (length (gathered 2 t).kept))
+    go : (b : Bool) → packed_count (gathered 1 t).kept + of_second 0 packed_count (unless_lacking b (gathered 2 t).kept)
+        ≡ nodes_needed (length (gathered 1 t).kept) + cond b 0 (nodes_needed (length (gathered 2 t).kept))
     go true = ap (λ (n : ℕ). n + 0) (count-needed (gathered 1 t).kept)
     go false = let e = count-needed (gathered 1 t).kept in let f = count-needed (gathered 2 t).kept in omega arith
 
@@ -92,8 +88,10 @@ module _ (t firsts seconds : Words) (r : Toured t firsts seconds) where
       let y : b ≡ length (gathered 2 t).kept = rw two-gathered at f in
       (most a b ea eb (omega (arith, e)) (omega (arith, f)), rw (x, y, kept-needed t))
 
-  pub grown : (a b need : ℕ) → need ≡ needed_both t a b → ltb (nodes t) (needed_both t a b) ≡ outgrows t → (nodes t) < need → outgrows t ≡ true
+  pub grown : (a b need : ℕ) → need ≡ needed_both t a b → ltb (nodes t) (needed_both t a b) ≡ outgrows t
+      → (nodes t) < need → outgrows t ≡ true
   grown a b need e f h = sym f ∙ lt-ltb (nodes t) (needed_both t a b) (omega arith)
 
-  pub fits : (a b need : ℕ) → need ≡ needed_both t a b → ltb (nodes t) (needed_both t a b) ≡ outgrows t → need ≤ (nodes t) → (needed_both t a b ≤ (nodes t)) × (outgrows t ≡ false)
+  pub fits : (a b need : ℕ) → need ≡ needed_both t a b → ltb (nodes t) (needed_both t a b) ≡ outgrows t → need ≤ (nodes t)
+      → (needed_both t a b ≤ (nodes t)) × (outgrows t ≡ false)
   fits a b need e f h = (omega arith, sym f ∙ le-ltb (nodes t) (needed_both t a b) (omega arith))

@@ -1,12 +1,6 @@
 -- The whole second slice, and the call.
-use mathlib.Core.Path.{◌≡◌, refl, ap, sym, ◌∙◌}
-use mathlib.Core.Bool.{true, false}
-use mathlib.Core.Logic.{◌≢◌}
-use mathlib.Core.List.{◌++◌}
-use Prim.Native.Nat.{ℕ, zero, suc, ◌+◌, ◌-◌, ◌*◌, ◌≤◌, ◌<◌}
-use native.Mathlib.Omega.{arith}
-use lib.ListN.{length, take, drop}
-use borrow.Author.Tests.{eq-eqb, ne_eqb, lt-ltb, le-ltb}
+use Rattle.std.proofs.Common.{◌≡◌, ℕ, zero, suc, ◌+◌, ◌-◌, ◌*◌, ◌<◌, ◌≤◌, true, false, ◌≢◌, ◌++◌, length, take, drop, sym, refl, ap, ◌∙◌}
+use Rattle.std.proofs.Common.{arith, le-ltb, lt-ltb, eq-eqb, ne_eqb}
 use Rattle.std.specs.Prelude.{Ok, Err}
 use Rattle.model.specs.declared.Refusal.{Refusal}
 use Rattle.model.specs.declared.Refusal.TheVariants.{NoNodes, OtherLength, ShortReport}
@@ -33,11 +27,14 @@ module _ (t firsts seconds out : Words) (o : Toured t firsts seconds) (l : lengt
   pub part-long : length (take (length out - 8) (drop 8 out)) ≡ 32 * nodes t
   part-long = nodes-long out (nodes t) long
 
-  pub put-out : (w : Words) → length w ≡ length (take (length out - 8) (drop 8 out)) → 8 ≤ length (take 8 out ++ (w ++ drop (length out - 8) (drop 8 out)))
+  pub put-out : (w : Words) → length w ≡ length (take (length out - 8) (drop 8 out))
+      → 8 ≤ length (take 8 out ++ (w ++ drop (length out - 8) (drop 8 out)))
   put-out w e = put-back out (nodes t) long w e
 
-  pub rebuilt : (w x : Words) (one two : ℕ) → w ≡ packed_nodes (nodes t) (kept_maps t) → (one ≡ packed_count (kept_maps t).one) × (two ≡ second_root (kept_maps t))
-      → x ≡ header_words one two (nodes t) ++ drop 8 (take 8 out ++ (w ++ drop (length out - 8) (drop 8 out))) → x ≡ packed_table (nodes t) (kept_maps t)
+  pub rebuilt : (w x : Words) (one two : ℕ) → w ≡ packed_nodes (nodes t) (kept_maps t) → (one ≡ packed_count (kept_maps t).one)
+      × (two ≡ second_root (kept_maps t))
+      → x ≡ header_words one two (nodes t) ++ drop 8 (take 8 out ++ (w ++ drop (length out - 8) (drop 8 out))) → x
+      ≡ packed_table (nodes t) (kept_maps t)
   rebuilt w x one two a b c = put-table out (nodes t) long (kept_maps t) w x one two a b c
 
 -- ---- the call
@@ -47,7 +44,8 @@ module _ (t out report : Words) where
   num = salvage_number t (length out) (length report)
 
   abbrev Answers : Salvaged → Type 0
-  Answers r = (r ≡ salvage t (length out) (length report)) × ((out ≡ salvage_out t out (length report)) × (report ≡ salvage_report t (length out) report))
+  Answers r = (r ≡ salvage t (length out) (length report))
+      × ((out ≡ salvage_out t out (length report)) × (report ≡ salvage_report t (length out) report))
 
   refuses : (k : ℕ) → num ≡ k → k ≢ 0 → Answers (refused_with k)
   unfolding salvage salvage_out salvage_report
@@ -69,7 +67,8 @@ module _ (t out report : Words) where
     module _ (l : length out ≡ length t) where
       pub refused-report : length report < 36 * nodes t → Answers (Err ShortReport)
       unfolding salvage_number
-      refused-report d = refuses-by ShortReport (rw (h, eq-eqb (length out) (length t) l, lt-ltb (length report) (36 * nodes t) d)) (λ w. omega arith)
+      refused-report d = refuses-by ShortReport
+          (rw (h, eq-eqb (length out) (length t) l, lt-ltb (length report) (36 * nodes t) d)) (λ w. omega arith)
 
       module _ (r : 36 * nodes t ≤ length report) where
         pub refused-outgrown : outgrows t ≡ true → Answers (Err NoNodes)
@@ -81,10 +80,13 @@ module _ (t out report : Words) where
         unfolding salvage_number
         accepted o = rw (h, eq-eqb (length out) (length t) l, le-ltb (length report) (36 * nodes t) r, o)
 
-        pub salvaged : outgrows t ≡ false → (d : ℕ) (o' r' : Words) → o' ≡ packed_table (nodes t) (kept_maps t) → Reported report r' (dropped_all t) d
-            → (Ok d ≡ salvage t (length out) (length report)) × ((o' ≡ salvage_out t out (length report)) × (r' ≡ salvage_report t (length out) report))
+        pub salvaged : outgrows t ≡ false → (d : ℕ) (o' r' : Words) → o' ≡ packed_table (nodes t) (kept_maps t)
+            → Reported report r' (dropped_all t) d
+            → (Ok d ≡ salvage t (length out) (length report))
+            × ((o' ≡ salvage_out t out (length report)) × (r' ≡ salvage_report t (length out) report))
         unfolding salvage salvage_out salvage_report
-        salvaged o d o' r' a b = let e = accepted o in (rw (e, b.0), (rw e a, rw e (b.1 ∙ ap (λ (i : ℕ). drop_words (dropped_all t) ++ drop (3 * i) report) b.0)))
+        salvaged o d o' r' a b = let e =
+            accepted o in (rw (e, b.0), (rw e a, rw e (b.1 ∙ ap (λ (i : ℕ). drop_words (dropped_all t) ++ drop (3 * i) report) b.0)))
 
 -- ---- the header test
 

@@ -1,11 +1,6 @@
 -- The two tours: their slices made ready, and the nodes entered for each collection.
-use mathlib.Core.Path.{◌≡◌, refl, ap, sym, ◌∙◌}
-use mathlib.Core.Bool.{true}
-use mathlib.Core.List.{List, ◌++◌}
-use Prim.Native.Nat.{ℕ, ◌+◌, ◌-◌, ◌≤◌}
-use native.Mathlib.Omega.{arith}
-use lib.ListN.{length, take, drop, replicate, length-drop}
-use lib.Seq.{length-take-le, take-take, take_at, drop_at}
+use Rattle.std.proofs.Common.{◌≡◌, ℕ, ◌+◌, ◌-◌, ◌≤◌, true, List, ◌++◌, length, take, drop, replicate, sym, refl, ap, ◌∙◌, arith}
+use Rattle.std.proofs.Common.{length-drop, length-take-le, take-take, take_at, drop_at}
 use Rattle.std.proofs.lemmas.List.{drop-take}
 use Rattle.model.specs.Table.{Words, at, nodes, in_range, header_ok}
 use Rattle.model.specs.SoundTest.{all, elem, distinct}
@@ -34,7 +29,8 @@ module _ (t os : Words) (h : header_ok t ≡ true) (l : length os ≡ 65536) whe
     marked = λ i r. none-marked 1024 i ∙ (unfold elem in refl);
   }
 
-  module _ (o₁ : Words) (first : ℕ) (long : length o₁ ≡ length os) (e : take first o₁ ≡ take 0 os ++ entered_from t (at t 1) (take 0 os)) (f : first ≤ nodes t) where
+  module _ (o₁ : Words) (first : ℕ) (long : length o₁ ≡ length os) (e : take first o₁ ≡ take 0 os ++ entered_from t (at t 1) (take 0 os))
+      (f : first ≤ nodes t) where
     one : take first o₁ ≡ entered 1 t
     unfolding entered
     one = e
@@ -50,11 +46,14 @@ module _ (t os : Words) (h : header_ok t ≡ true) (l : length os ≡ 65536) whe
           header = h;
           few = f;
           apart = rw one u.apart;
-          range = rw one ((all-each (in_range (nodes t)) (entered 1 t)).1 (Each-map (UpTo (nodes t)) (λ (i : ℕ). in_range (nodes t) i ≡ true) (entered 1 t) (λ i r. (range-iff (nodes t) i).1 r) u.range));
+          range = rw one ((all-each (in_range (nodes t)) (entered 1 t)).1
+              (Each-map (UpTo (nodes t)) (λ (i : ℕ). in_range (nodes t) i ≡ true) (entered 1 t)
+              (λ i r. (range-iff (nodes t) i).1 r) u.range));
           marked = m;
         }
 
-    pub both-toured : (o₂ : Words) (count : ℕ) → length o₂ ≡ length o₁ → take count o₂ ≡ take first o₁ ++ entered_from t (at t 3) (take first o₁) → (first ≤ count) × (count ≤ nodes t)
+    pub both-toured : (o₂ : Words) (count : ℕ) → length o₂ ≡ length o₁ → take count o₂ ≡ take first o₁
+        ++ entered_from t (at t 3) (take first o₁) → (first ≤ count) × (count ≤ nodes t)
         → Toured t (take first o₂) (take (count - first) (drop first o₂)) × ((first ≤ count) × (count ≤ 65535))
     unfolding entered
     both-toured o₂ count m q g =
@@ -65,7 +64,8 @@ module _ (t os : Words) (h : header_ok t ≡ true) (l : length os ≡ 65536) whe
           record {
             header = h;
             one = sym (take-take first count o₂ g.0) ∙ ap (take first) whole ∙ take_at (entered 1 t) (entered 2 t) first one-long;
-            two = sym (drop-take first (count - first) o₂) ∙ ap (λ (k : ℕ). drop first (take k o₂)) s ∙ ap (drop first) whole ∙ drop_at (entered 1 t) (entered 2 t) first one-long;
+            two = sym (drop-take first (count - first) o₂) ∙ ap (λ (k : ℕ). drop first (take k o₂)) s ∙ ap (drop first) whole
+                ∙ drop_at (entered 1 t) (entered 2 t) first one-long;
             few =
                 let d = length-drop first o₂ in
                 let a = length-take-le first o₂ (omega (arith, g.0, g.1, few, long)) in

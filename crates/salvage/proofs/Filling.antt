@@ -1,9 +1,6 @@
 -- The nodes of one collection: gathered behind the nodes before, and packed there.
-use mathlib.Core.Path.{◌≡◌, ap, sym, ◌∙◌}
-use mathlib.Core.List.{List, ◌++◌}
-use Prim.Native.Nat.{ℕ, suc, ◌+◌, ◌-◌, ◌*◌, ◌/◌, ◌≤◌}
-use native.Mathlib.Omega.{arith}
-use lib.ListN.{length, take, drop, replicate, take-append-drop}
+use Rattle.std.proofs.Common.{◌≡◌, ℕ, suc, ◌+◌, ◌-◌, ◌*◌, ◌/◌, ◌≤◌, List, ◌++◌, length, take, drop, replicate, sym, ap, ◌∙◌, arith}
+use Rattle.std.proofs.Common.{take-append-drop}
 use Rattle.model.specs.Table.{Words, nodes}
 use Rattle.model.specs.Slots.{Slot}
 use Rattle.model.specs.Packing.{packed_count, packed_words}
@@ -76,8 +73,10 @@ module _ (t order words : Words) (before b : ℕ) (report : Words) (f : Fits t o
         let i = all-nodes in
         (omega arith, omega arith, omega arith, omega arith)
 
-    pub filled : (x : Words) (root : ℕ) → x ≡ packed_after before n whole (pairs_after before whole p.kept) → root ≡ before + packed_count (pairs_after before whole p.kept)
-        → ((x ≡ packed_after before (nodes t) words g.kept) × (root ≡ before + packed_count g.kept)) × (Reported report r' g.dropped p.dropped × (p.dropped ≤ 12 * length order))
+    pub filled : (x : Words) (root : ℕ) → x ≡ packed_after before n whole (pairs_after before whole p.kept) → root
+        ≡ before + packed_count (pairs_after before whole p.kept)
+        → ((x ≡ packed_after before (nodes t) words g.kept) × (root ≡ before + packed_count g.kept))
+        × (Reported report r' g.dropped p.dropped × (p.dropped ≤ 12 * length order))
     filled x root a c =
         let ds : drops_in r' p.dropped ≡ g.dropped = ap (λ (y : Gathered). y.dropped) e in
         let s = k.sum in
@@ -85,13 +84,17 @@ module _ (t order words : Words) (before b : ℕ) (report : Words) (f : Fits t o
         let z : 3 * p.dropped ≤ length r' = omega arith in
         let same : take w whole ≡ take w words = ap (take w) (back-is words w w') ∙ back-take words w words-fit.0 w' in (
           (
-            rw all-nodes at a ∙ ap (packed_after before (nodes t) whole) whole-pairs ∙ ap (λ (y : Words). y ++ (packed_words (suc before) g.kept ++ replicate (32 * (nodes t - (before + packed_count g.kept))) 0)) same,
+            rw all-nodes at a ∙ ap (packed_after before (nodes t) whole) whole-pairs
+                ∙ ap (λ (y : Words). y
+                ++ (packed_words (suc before) g.kept ++ replicate (32 * (nodes t - (before + packed_count g.kept))) 0)) same,
             c ∙ ap (λ (ps : List Slot). before + packed_count ps) whole-pairs,
           ),
           (
             (
               sym (drops-length r' p.dropped) ∙ ap length ds,
-              sym (take-append-drop (3 * p.dropped) r') ∙ ap (λ (y : Words). y ++ drop (3 * p.dropped) r') (sym (drop-words r' p.dropped z) ∙ ap drop_words ds) ∙ ap (λ (y : Words). drop_words g.dropped ++ y) k.stay,
+              sym (take-append-drop (3 * p.dropped) r')
+                  ∙ ap (λ (y : Words). y ++ drop (3 * p.dropped) r') (sym (drop-words r' p.dropped z) ∙ ap drop_words ds)
+                  ∙ ap (λ (y : Words). drop_words g.dropped ++ y) k.stay,
             ),
             omega arith,
           ),

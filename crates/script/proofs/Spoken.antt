@@ -1,12 +1,7 @@
--- What is printed from the answer and the list is document 01's text of the request; so the calls over all pieces print the printer's bytes.
-use mathlib.Core.Path.{◌≡◌, refl, sym, ap, ◌∙◌}
-use mathlib.Core.Bool.{Bool, true, false}
-use mathlib.Core.Logic.{inl, inr}
-use mathlib.Core.List.{List, [], ◌∷◌, ◌++◌, append-nil, append_assoc}
-use Prim.Native.Nat.{ℕ, zero, suc, ◌+◌, ◌≤◌}
-use native.Mathlib.Omega.{arith}
-use lib.Dec.{eqb}
-use lib.ListN.{length, take, drop, take-append-drop}
+-- What is printed from the answer and the list is document 01's text of the request; so the calls over all pieces print the printer's
+-- bytes.
+use Rattle.std.proofs.Common.{◌≡◌, ℕ, zero, suc, ◌+◌, ◌≤◌, Bool, true, false, eqb, List, [], ◌∷◌, ◌++◌, length, take, drop, sym, refl, ap}
+use Rattle.std.proofs.Common.{◌∙◌, inl, inr, append_assoc, append-nil, arith, take-append-drop}
 use Rattle.std.specs.Prelude.{Some, None, Ok, Err}
 use Rattle.model.specs.declared.Refusal.{Refusal}
 use Rattle.model.specs.Numbers.{refusal_number, refusal_of}
@@ -23,7 +18,8 @@ use Rattle.script_bytes.specs.Line.{Asked, begin, line_in, used_of, request, beg
 use Rattle.script_bytes.specs.declared.LineRead.{LineRead}
 use Rattle.script_bytes.specs.declared.Text.{Text}
 use Rattle.script_bytes.specs.Text.{order_lines, done_line, spoken, bytes_of, Puts}
-use Rattle.script_bytes.specs.Input.{Reading, reading, read_byte, read_bytes, do_request, print_on, read_pieces, joined, line_done, finished}
+use Rattle.script_bytes.specs.Input.{Reading, reading, read_byte, read_bytes, do_request, print_on, read_pieces, joined, line_done}
+use Rattle.script_bytes.specs.Input.{finished}
 use Rattle.model.proofs.Numbers.{Numbered, refusal-numbered}
 use Rattle.script_bytes.proofs.Puts.{puts-whole}
 use Rattle.script_bytes.proofs.Input.{bytes-append, line-done, line-used, printer-read}
@@ -48,11 +44,13 @@ unless-twice (suc n) x y = refl
 
 pub call-table : (x : Call) (d : Desk) → (do_call x d).desk.table ≡ table_after x (length d.list) 0 d.table
 unfolding do_call table_after
-call-table x d = unless-of (λ (r : Reply). r.desk.table) (refusal x (length d.list) 0 d.table) _ _ ∙ unless-twice (refusal x (length d.list) 0 d.table) _ _
+call-table x d = unless-of (λ (r : Reply). r.desk.table) (refusal x (length d.list) 0 d.table) _ _
+    ∙ unless-twice (refusal x (length d.list) 0 d.table) _ _
 
 pub call-list : (x : Call) (d : Desk) → (do_call x d).desk.list ≡ list_after x d.list 0 d.table
 unfolding do_call list_after
-call-list x d = unless-of (λ (r : Reply). r.desk.list) (refusal x (length d.list) 0 d.table) _ _ ∙ unless-twice (refusal x (length d.list) 0 d.table) _ _
+call-list x d = unless-of (λ (r : Reply). r.desk.list) (refusal x (length d.list) 0 d.table) _ _
+    ∙ unless-twice (refusal x (length d.list) 0 d.table) _ _
 
 -- what carrying request q out leaves and answers
 abbrev pub Acted : Request → (t lent : Words) → Written → (t' lent' : Words) → Type 0
@@ -64,11 +62,15 @@ abbrev Called : Call → (t lent : Words) → Written → (t' lent' : Words) →
 Called x t lent a t' lent' =
     (a ≡ written x (length lent) 0 t) × ((t' ≡ table_after x (length lent) 0 t) × (lent' ≡ list_after x lent 0 t))
 
-pub acted-insertion : (q : Request) (t lent : Words) (k r : ℕ) → q ≡ Insertion k r → (a : Written) (t' lent' : Words) → Called (insertion 1 k r 0) t lent a t' lent' → Acted q t lent a t' lent'
+pub acted-insertion :
+    (q : Request) (t lent : Words) (k r : ℕ) → q ≡ Insertion k r → (a : Written) (t' lent' : Words)
+    → Called (insertion 1 k r 0) t lent a t' lent' → Acted q t lent a t' lent'
 unfolding answer_to do_request
 acted-insertion q t lent k r e a t' lent' h = rw (e, call-table, call-list) h
 
-pub acted-deletion : (q : Request) (t lent : Words) (k : ℕ) → q ≡ Deletion k → (a : Written) (t' lent' : Words) → Called (deletion 1 k) t lent a t' lent' → Acted q t lent a t' lent'
+pub acted-deletion :
+    (q : Request) (t lent : Words) (k : ℕ) → q ≡ Deletion k → (a : Written) (t' lent' : Words) → Called (deletion 1 k) t lent a t' lent'
+    → Acted q t lent a t' lent'
 unfolding answer_to do_request
 acted-deletion q t lent k e a t' lent' h = rw (e, call-table, call-list) h
 
@@ -84,7 +86,8 @@ call-read : (x : Call) (lent t : Words) → refusal x (length lent) 0 t ≡ 0
     → take (store_count (orders_of x 0 t) + flush_count (orders_of x 0 t)) (decode (list_with (orders_of x 0 t) lent)) ≡ orders_of x 0 t
 call-read x lent t e =
     let u = (accepted-iff x (length lent) 0 t).0 e in
-    let counted : store_count (orders_of x 0 t) + flush_count (orders_of x 0 t) ≡ length (orders_of x 0 t) = omega (arith, counts-length (orders_of x 0 t), no-barriers x t) in
+    let counted : store_count (orders_of x 0 t) + flush_count (orders_of x 0 t) ≡ length (orders_of x 0 t) =
+    omega (arith, counts-length (orders_of x 0 t), no-barriers x t) in
     rw counted (list-read-back 0 (stores_of x t) lent t u.header (accepted-steps x (length lent) 0 t u.sound e).stores-inside)
 
 -- a number that refuses is a refusal's
@@ -92,26 +95,30 @@ numbered-more : (m n : ℕ) → m ≡ suc n → Numbered m → refusal_number (r
 numbered-more m n e (inl z) = absurd (omega arith)
 numbered-more m n e (inr h) = ap (λ (k : ℕ). refusal_number (refusal_of k)) (sym e) ∙ h ∙ e
 
-call-spoken : (x : Call) (d : Desk) (n : ℕ) → refusal x (length d.list) 0 d.table ≡ n → spoken (answer_of x d) (list_after x d.list 0 d.table) ≡ (do_call x d).bytes
+call-spoken : (x : Call) (d : Desk) (n : ℕ) → refusal x (length d.list) 0 d.table ≡ n
+    → spoken (answer_of x d) (list_after x d.list 0 d.table) ≡ (do_call x d).bytes
 unfolding spoken written list_after do_call
 call-spoken x d zero e = rw (e, call-read x d.list d.table e) (lines-text (orders_of x 0 d.table) (orders_of x 0 d.table))
 call-spoken x d (suc n) e = rw (e, numbered-more _ n e (refusal-numbered x (length d.list) 0 d.table))
 
 -- What is printed of a request, from its answer and the list after it, is document 01's text.
-pub request-spoken : (q : Request) (d : Desk) → spoken (answer_to q d) (do_request (Ok (Some q)) d).desk.list ≡ (do_request (Ok (Some q)) d).bytes
+pub request-spoken :
+    (q : Request) (d : Desk) → spoken (answer_to q d) (do_request (Ok (Some q)) d).desk.list ≡ (do_request (Ok (Some q)) d).bytes
 unfolding answer_to do_request spoken
 request-spoken (Insertion k r) d = rw call-list (call-spoken (insertion 1 k r 0) d _ refl)
 request-spoken (Deletion k) d = rw call-list (call-spoken (deletion 1 k) d _ refl)
 
 -- ---- what the calls leave
 
-pub ended-left : (q : Request) (s : LineState) (x : Asked) → x ≡ request s → x ≡ Ok (Some q) → (d : Desk) {a : Written} {t l : Words} {v w : Text}
+pub ended-left : (q : Request) (s : LineState) (x : Asked) → x ≡ request s → x ≡ Ok (Some q)
+    → (d : Desk) {a : Written} {t l : Words} {v w : Text}
     → a ≡ answer_to q d → t ≡ (do_request (Ok (Some q)) d).desk.table → l ≡ (do_request (Ok (Some q)) d).desk.list → v.at ≡ 0
     → Puts (spoken a l) v w → reply (bytes_of w) (desk_of t l) ≡ do_request (request s) d
 ended-left q s x e f d n g h z p = rw (puts-whole z p, n, g, h, ← e, f, request-spoken q d)
 
 -- a line that asks nothing, and one that is refused
-pub asks-nothing : (s : LineState) (x : Asked) (d : Desk) → x ≡ request s → x ≡ Ok None → do_request (request s) d ≡ reply (refused_line 0) d
+pub asks-nothing : (s : LineState) (x : Asked) (d : Desk) → x ≡ request s → x ≡ Ok None → do_request (request s) d
+    ≡ reply (refused_line 0) d
 unfolding do_request
 asks-nothing s x d e f = rw (← e, f)
 
@@ -120,7 +127,8 @@ pub asks-refused : (s : LineState) (x : Asked) (r : Refusal) (n : ℕ) (d : Desk
 unfolding do_request
 asks-refused s x r n d e f m = rw (← e, f, m)
 
-pub refused-left : (n : ℕ) {x : Reply} {d : Desk} {v w : Text} → x ≡ reply (refused_line n) d → v.at ≡ 0 → Puts (refused_line n) v w → reply (bytes_of w) d ≡ x
+pub refused-left : (n : ℕ) {x : Reply} {d : Desk} {v w : Text} → x ≡ reply (refused_line n) d → v.at ≡ 0 → Puts (refused_line n) v w
+    → reply (bytes_of w) d ≡ x
 refused-left n e z p = rw (e, puts-whole z p)
 
 -- at the end of the input
@@ -146,7 +154,8 @@ module _ (s : Session) (piece : Bytes) (x : LineRead) (e : x ≡ line_in s.line 
         slices = k;
       }
 
-  pub part-read : {y : Session} → x.end ≡ None → silent x.line (desk s) ≡ reading y.line (reply (bytes_of y.text) (desk y)) → Same_slices s y
+  pub part-read : {y : Session} → x.end ≡ None → silent x.line (desk s)
+      ≡ reading y.line (reply (bytes_of y.text) (desk y)) → Same_slices s y
       → Told s piece (length piece) y
   unfolding line_done
   part-read {y} g h k = rw g at (told-as {y = y} (rw g h) k)
@@ -170,7 +179,8 @@ byte-after bs x b = go (eqb b 10) refl
     go true e = rw (e, append_assoc)
     go false e = rw e
 
-bytes-after : (bs : Bytes) (x : Reading Reply) (input : Bytes) → read_bytes print_on (after bs x) input ≡ after bs (read_bytes print_on x input)
+bytes-after : (bs : Bytes) (x : Reading Reply) (input : Bytes) → read_bytes print_on (after bs x) input
+    ≡ after bs (read_bytes print_on x input)
 unfolding read_bytes
 bytes-after bs x [] = refl
 bytes-after bs x (b ∷ input) = rw (byte-after bs x b) (bytes-after bs (read_byte print_on x b) input)
@@ -193,6 +203,7 @@ pub record Same (x y : Reading Reply) : Type 0 where
   pub line-same : x.line ≡ y.line
   pub desk-same : x.state.desk ≡ y.state.desk
 
+-- a reading has its own line and desk
 pub same-start : (x : Reading Reply) → Same x x
 same-start x = record { line-same = refl; desk-same = refl }
 
@@ -214,6 +225,7 @@ same-line s rest {used} {v} h e =
       desk-same = sym (ap (λ (x : Reading Reply). x.state.desk) split) ∙ e.desk-same;
     }
 
+-- sessions over the slices of one session are over the same slices
 pub slices-then : {x y z : Session} → Same_slices x y → Same_slices y z → Same_slices x z
 slices-then h k =
     record {
@@ -224,7 +236,8 @@ slices-then h k =
 
 -- at its end
 pub same-end : (x : Session) (piece rest : Bytes) {v : Session} → length rest ≤ 0
-    → Same (read_bytes print_on (silent v.line (desk v)) rest) (read_bytes print_on (silent x.line (desk x)) piece) → Same_slices x v → After x piece v
+    → Same (read_bytes print_on (silent v.line (desk v)) rest) (read_bytes print_on (silent x.line (desk x)) piece)
+    → Same_slices x v → After x piece v
 unfolding read_bytes
 same-end x piece [] h e k = record { line-is = sym e.line-same; desk-is = sym e.desk-same; slices = k }
 same-end x piece (b ∷ rest) h e k = absurd (omega arith)

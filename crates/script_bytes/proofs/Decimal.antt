@@ -1,15 +1,10 @@
 -- Numbers in decimal: their digits, how many, and that they read back.
-use mathlib.Core.Path.{◌≡◌, refl, sym, ap, ◌∙◌}
-use mathlib.Core.Bool.{true}
-use mathlib.Core.List.{[], ◌∷◌, ◌++◌, map, map-append}
-use Prim.Native.Nat.{ℕ, zero, suc, ◌+◌, ◌*◌, ◌/◌, ◌%◌, ◌^◌, max, ◌≤◌, ◌<◌}
-use native.Mathlib.Nat.{pow-suc, one-le-pow, div-lt_iff_lt-mul, mod-lt, mod-eq_of_lt, div-add-mod'}
-use native.Mathlib.Numerals.{add-one}
+use Rattle.std.proofs.Common.{◌≡◌, ℕ, zero, suc, ◌+◌, ◌*◌, ◌/◌, ◌%◌, ◌^◌, ◌<◌, ◌≤◌, max, true, [], ◌∷◌, ◌++◌, map, length, sym, refl, ap}
+use Rattle.std.proofs.Common.{◌∙◌, mod-lt, mod-eq_of_lt, div-lt_iff_lt-mul, pow-suc, div-add-mod', add-one, arith, lit<, length-append}
+use Rattle.std.proofs.Common.{le-ltb, lt-ltb, le-leb}
+use mathlib.Core.List.{map-append}
+use native.Mathlib.Nat.{one-le-pow}
 use native.Mathlib.Decide.{dec_lt}
-use native.Mathlib.Omega.{arith}
-use lib.Dec.{lit<}
-use lib.ListN.{length, length-append}
-use borrow.Author.Tests.{lt-ltb, le-ltb, le-leb}
 use Rattle.list_laws.proofs.Tools.{all-append}
 use Rattle.isrc.proofs.Characters.{character-small, value-digit}
 use Rattle.isrc.proofs.Digits.{number-nil, number-snoc}
@@ -92,6 +87,7 @@ unfolding decimal_from digits
 decimal-digits zero n = refl
 decimal-digits (suc f) n = digits-next f n (decimal-digits f (n / 10))
 
+-- a number is written with at most 20 digits
 pub decimal-most : (n : ℕ) → length (decimal n) ≤ 20
 unfolding decimal
 decimal-most n = width-most 20 n
@@ -110,7 +106,8 @@ unfolding all
 reads-next f n ih = go (dec_lt n 10)
   where
     go : Dec (n < 10) → (all is_digit (decimal_from (suc f) n) ≡ true) × (decimal_value (decimal_from (suc f) n) ≡ n)
-    go (yes h) = rw (decimal-small f n h) (rw (digit-counts n h).0, number-snoc 10 [] (value (48 + n)) ∙ rw (number-nil, (digit-counts n h).1) (omega arith))
+    go (yes h) = rw (decimal-small f n h)
+        (rw (digit-counts n h).0, number-snoc 10 [] (value (48 + n)) ∙ rw (number-nil, (digit-counts n h).1) (omega arith))
     go (no h) =
         let d = digit-counts (n % 10) (mod-lt n (lit< tt)) in
         rw (decimal-large f n (omega arith)) (

@@ -1,20 +1,16 @@
 -- Reading the input byte by byte, in pieces of any size, carries out document 01's lines in order; so the printer's bytes come out.
-use mathlib.Core.Path.{◌≡◌, refl, sym, ap, ◌∙◌}
-use mathlib.Core.Bool.{Bool, true, false, cond, ◌||◌}
-use mathlib.Core.List.{List, [], ◌∷◌, ◌++◌, append-nil, append_assoc}
-use Prim.Native.Nat.{ℕ, ◌≤◌, ◌<◌}
-use native.Mathlib.Numerals.{one-add}
-use native.Mathlib.Omega.{arith}
-use lib.Dec.{eqb}
-use lib.ListN.{length, take}
-use borrow.Author.Tests.{eqb-true}
+use Rattle.std.proofs.Common.{◌≡◌, ℕ, ◌<◌, ◌≤◌, Bool, true, false, cond, ◌||◌, eqb, List, [], ◌∷◌, ◌++◌, length, take, sym, refl, ap, ◌∙◌}
+use Rattle.std.proofs.Common.{append_assoc, append-nil, one-add, arith, eqb-true}
 use Rattle.std.specs.Prelude.{Option, Some, None, is_some, Ok, Err}
 use Rattle.model.specs.Results.{Parsed}
 use Rattle.model.specs.Codes.{parse}
 use Rattle.model.specs.Writes.{insertion, deletion}
-use Rattle.model.specs.Printer.{Bytes, at_first, lines, fields, Form, plus, minus, other, form_of, Desk, Reply, reply, with_key, do_form, do_line, do_lines, first_desk, printer}
-use Rattle.script_bytes.specs.Line.{Asked, begin, next_place, next_number, with_number, with_digit, entered, step, after, further_by, further, line_in, used_of, insertion_of, deletion_of, request, request_of, begun}
-use Rattle.script_bytes.specs.Input.{Reading, reading, read_byte, read_bytes, read_pieces, joined, line_done, finished, carried, do_request, print_on, opening}
+use Rattle.model.specs.Printer.{Bytes, at_first, lines, fields, Form, plus, minus, other, form_of, Desk, Reply, reply, with_key, do_form}
+use Rattle.model.specs.Printer.{do_line, do_lines, first_desk, printer}
+use Rattle.script_bytes.specs.Line.{Asked, begin, next_place, next_number, with_number, with_digit, entered, step, after, further_by}
+use Rattle.script_bytes.specs.Line.{further, line_in, used_of, insertion_of, deletion_of, request, request_of, begun}
+use Rattle.script_bytes.specs.Input.{Reading, reading, read_byte, read_bytes, read_pieces, joined, line_done, finished, carried, do_request}
+use Rattle.script_bytes.specs.Input.{print_on, opening}
 use Rattle.script_bytes.specs.declared.LineState.{LineState}
 use Rattle.script_bytes.specs.declared.LineRead.{LineRead}
 use Rattle.script_bytes.specs.declared.Place.{Place}
@@ -99,11 +95,13 @@ unfolding lines
 lines-other b bs e = rw (e, lines)
 
 -- a line feed, and any other byte
-pub byte-feed : {A : Type 0} (act : Asked → A → A) (s : LineState) (a : A) → read_byte act (reading s a) 10 ≡ reading begin (act (request s) a)
+pub byte-feed : {A : Type 0} (act : Asked → A → A) (s : LineState) (a : A) → read_byte act (reading s a) 10
+    ≡ reading begin (act (request s) a)
 unfolding read_byte
 byte-feed act s a = refl
 
-pub byte-other : {A : Type 0} (act : Asked → A → A) (s : LineState) (a : A) (b : ℕ) → eqb b 10 ≡ false → read_byte act (reading s a) b ≡ reading (step s b) a
+pub byte-other : {A : Type 0} (act : Asked → A → A) (s : LineState) (a : A) (b : ℕ) → eqb b 10 ≡ false
+    → read_byte act (reading s a) b ≡ reading (step s b) a
 unfolding read_byte
 byte-other act s a b e = rw e
 
@@ -116,13 +114,15 @@ module _ {A : Type 0} (act : Asked → A → A) where
 
   -- one byte on
   at-byte : (text : Bytes) (a : A) (b : ℕ) (bs : Bytes)
-      → ((text : Bytes) (a : A) → finished act (read_bytes act (reading (after begin text) a) bs) ≡ carried act (left_lines text (lines bs)) a)
+      → ((text : Bytes) (a : A) → finished act (read_bytes act (reading (after begin text) a) bs)
+      ≡ carried act (left_lines text (lines bs)) a)
       → finished act (read_bytes act (read_byte act (reading (after begin text) a) b) bs) ≡ carried act (left_lines text (lines (b ∷ bs))) a
   unfolding carried after
   at-byte text a b bs ih = go (eqb b 10) refl
     where
       go : (t : Bool) → eqb b 10 ≡ t
-          → finished act (read_bytes act (read_byte act (reading (after begin text) a) b) bs) ≡ carried act (left_lines text (lines (b ∷ bs))) a
+          → finished act (read_bytes act (read_byte act (reading (after begin text) a) b) bs)
+          ≡ carried act (left_lines text (lines (b ∷ bs))) a
       go true e = rw (eqb-true b 10 e, byte-feed, lines-feed, left-feed, line-judged) (ih [] (act (request_of (form_of (fields text))) a))
       go false e = rw (byte-other act (after begin text) a b e, lines-other b bs e, left-more, ← after-snoc) (ih (text ++ (b ∷ [])) a)
 
@@ -149,21 +149,25 @@ module _ {A : Type 0} (act : Asked → A → A) where
       → read_bytes act (reading (step s b) a) (take (used_of x.end bs) bs) ≡ line_done act x a
       → read_bytes act (reading s a) (take (used_of (further x).end (b ∷ bs)) (b ∷ bs)) ≡ line_done act (further x) a
   unfolding read_bytes line_done
-  done-further s a b bs x e h = go x.end h ∙ ap (λ (t : Bool). cond t (reading begin (act (request x.line) a)) (reading x.line a)) (sym (some-further 1 x.end))
+  done-further s a b bs x e h =
+      go x.end h ∙ ap (λ (t : Bool). cond t (reading begin (act (request x.line) a)) (reading x.line a)) (sym (some-further 1 x.end))
     where
-      go : (i : Option ℕ) → read_bytes act (reading (step s b) a) (take (used_of i bs) bs) ≡ cond (is_some i) (reading begin (act (request x.line) a)) (reading x.line a)
+      go : (i : Option ℕ) → read_bytes act (reading (step s b) a) (take (used_of i bs) bs)
+          ≡ cond (is_some i) (reading begin (act (request x.line) a)) (reading x.line a)
           → read_bytes act (reading s a) (take (used_of (further_by 1 i) (b ∷ bs)) (b ∷ bs))
           ≡ cond (is_some i) (reading begin (act (request x.line) a)) (reading x.line a)
       go None q = rw (read_bytes, byte-other act s a b e) q
       go (Some i) q = rw (one-add i, read_bytes, byte-other act s a b e) q
 
   -- The first line of a piece, or all of it where it has no line feed.
-  pub line-done : (s : LineState) (a : A) (bs : Bytes) → read_bytes act (reading s a) (take (used_of (line_in s bs).end bs) bs) ≡ line_done act (line_in s bs) a
+  pub line-done : (s : LineState) (a : A) (bs : Bytes) → read_bytes act (reading s a) (take (used_of (line_in s bs).end bs) bs)
+      ≡ line_done act (line_in s bs) a
   unfolding read_bytes line_in line_done
   line-done s a [] = refl
   line-done s a (b ∷ bs) = go (eqb b 10) refl (line-done (step s b) a bs)
     where
-      go : (t : Bool) → eqb b 10 ≡ t → read_bytes act (reading (step s b) a) (take (used_of (line_in (step s b) bs).end bs) bs) ≡ line_done act (line_in (step s b) bs) a
+      go : (t : Bool) → eqb b 10 ≡ t → read_bytes act (reading (step s b) a) (take (used_of (line_in (step s b) bs).end bs) bs)
+          ≡ line_done act (line_in (step s b) bs) a
           → read_bytes act (reading s a) (take (used_of (line_in s (b ∷ bs)).end (b ∷ bs)) (b ∷ bs)) ≡ line_done act (line_in s (b ∷ bs)) a
       go true e ih = rw (line_in, e, read_bytes, eqb-true b 10 e, byte-feed)
       go false e ih = rw (line_in, e) (done-further s a b bs (line_in (step s b) bs) e ih)
@@ -181,6 +185,7 @@ used-further : (b : ℕ) (bs : Bytes) (i : Option ℕ) → Used i bs → Used (f
 used-further b bs None h = (omega arith, λ p. omega arith)
 used-further b bs (Some i) h = (omega (arith, h.0), λ p. omega arith)
 
+-- reading a line uses no more bytes than there are, and at least one if there is any
 pub line-used : (s : LineState) (bs : Bytes) → Used (line_in s bs).end bs
 unfolding line_in
 line-used s [] = (omega arith, λ h. h)
@@ -219,4 +224,5 @@ carried-lines (l ∷ ls) x =
 pub printer-read : (ps : List Bytes) → (finished print_on (read_pieces print_on opening ps)).bytes ≡ printer (joined ps)
 unfolding printer
 printer-read ps =
-    rw (pieces-read print_on opening ps, lines-read print_on (joined ps) (reply [] first_desk)) (carried-lines (lines (joined ps)) (reply [] first_desk))
+    rw (pieces-read print_on opening ps, lines-read print_on (joined ps) (reply [] first_desk))
+    (carried-lines (lines (joined ps)) (reply [] first_desk))

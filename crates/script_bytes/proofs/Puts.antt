@@ -1,13 +1,9 @@
 -- Bytes put into a text one after the other.
-use mathlib.Core.Path.{◌≡◌, refl, sym, ap, ap₂, ◌∙◌}
-use mathlib.Core.List.{List, [], ◌∷◌, ◌++◌, append-nil, append_assoc}
-use Prim.Native.Nat.{ℕ, zero, suc, ◌+◌, ◌*◌, ◌/◌, ◌≤◌, ◌<◌, min}
+use Rattle.std.proofs.Common.{◌≡◌, ℕ, zero, suc, ◌+◌, ◌*◌, ◌/◌, ◌<◌, ◌≤◌, min, List, [], ◌∷◌, ◌++◌, length, get_or, take, drop, sym, refl}
+use Rattle.std.proofs.Common.{ap, ◌∙◌, ap₂, append_assoc, append-nil, add-zero, add-one, arith, length-append, length-drop}
+use Rattle.std.proofs.Common.{take-append-drop, drop_of_length-le, length-take, length-take-le, take_all, drop-cons, drop-drop, take_at}
 use native.Mathlib.Decide.{dec_le}
-use native.Mathlib.Numerals.{add-one}
-use native.Mathlib.Omega.{arith}
-use lib.ListN.{length, get_or, take, drop, length-append, length-take, length-drop, take-append-drop, drop_of_length-le}
-use lib.Seq.{drop-cons, take_at, take_all, take-append_seam, drop-append-add, drop-drop, length-take-le}
-use Rattle.std.proofs.Common.{add-zero}
+use lib.Seq.{take-append_seam, drop-append-add}
 use Rattle.std.specs.Prelude.{Ok, Err}
 use Rattle.model.specs.declared.Counts.{Counts}
 use Rattle.model.specs.declared.Refusal.{Refusal}
@@ -28,10 +24,12 @@ length-front out i bs h = simp (length-append, length-take-le i out (omega arith
 pub length-put : (out : Bytes) (i : ℕ) (bs : Bytes) → i + length bs ≤ length out → length (put_at out i bs) ≡ length out
 length-put out i bs h = simp (length-append, length-drop, length-take-le i out (omega arith)) (omega arith)
 
-put-put : (out : Bytes) (i : ℕ) (xs ys : Bytes) → i + length xs ≤ length out → put_at (put_at out i xs) (i + length xs) ys ≡ put_at out i (xs ++ ys)
+put-put : (out : Bytes) (i : ℕ) (xs ys : Bytes) → i + length xs ≤ length out → put_at (put_at out i xs) (i + length xs) ys
+    ≡ put_at out i (xs ++ ys)
 put-put out i xs ys h =
     let l = length-front out i xs h in
-    let t : take (i + length xs) (put_at out i xs) ≡ take i out ++ xs = take_at (take i out ++ xs) (drop (i + length xs) out) (i + length xs) l in
+    let t : take (i + length xs) (put_at out i xs) ≡ take i out ++ xs =
+    take_at (take i out ++ xs) (drop (i + length xs) out) (i + length xs) l in
     let n : i + length xs + length ys ≡ i + length (xs ++ ys) = omega (arith, length-append xs ys) in
     let d : drop (i + length xs + length ys) (put_at out i xs) ≡ drop (i + length (xs ++ ys)) out =
     ap (λ (k : ℕ). drop (k + length ys) (put_at out i xs)) (sym l)
@@ -56,6 +54,7 @@ puts-none {x} = record {
   same_buffer = refl;
 }
 
+-- putting xs and then ys is putting both, joined
 pub puts-then : {xs ys : Bytes} {x y z : Text} → Puts xs x y → Room (length xs) x → Puts ys y z → Puts (xs ++ ys) x z
 puts-then p h q = record { put = put-then p.put h q.put; same_buffer = q.same_buffer ∙ p.same_buffer }
 
@@ -122,18 +121,22 @@ first-orders list n k e = go (dec_le k (length list / 2))
   where
     go : Dec (k ≤ length list / 2) → take n (decode list) ≡ take k (decode list)
     go (yes h) = let m : n ≡ k = omega arith in ap (λ (j : ℕ). take j (decode list)) m
-    go (no h) = take_all n (decode list) (omega (arith, decode-most list)) ∙ sym (take_all k (decode list) (omega (arith, decode-most list)))
+    go (no h) = take_all n (decode list) (omega (arith, decode-most list))
+        ∙ sym (take_all k (decode list) (omega (arith, decode-most list)))
 
 -- the orders and their counts, and the refusal, are all that is spoken
-pub puts-done : (list : Words) (a : Written) (c : Counts) (n : ℕ) → a ≡ Ok c → {x y z : Text} → n ≡ min (c.stores + c.flushes) (length list / 2)
+pub puts-done : (list : Words) (a : Written) (c : Counts) (n : ℕ) → a ≡ Ok c → {x y z : Text} → n
+    ≡ min (c.stores + c.flushes) (length list / 2)
     → Room (48 * n) x → Puts (order_lines (take n (decode list))) x y → Puts (done_line c.stores c.flushes) y z → Puts (spoken a list) x z
 unfolding spoken
 puts-done list a c n b e h p q = rw (b, ← first-orders list n (c.stores + c.flushes) e) (puts-then p (omega (arith, orders-most list n)) q)
 
-pub puts-refused : (list : Words) (a : Written) (e : Refusal) (n : ℕ) → a ≡ Err e → n ≡ refusal_number e → {x y : Text} → Puts (refused_line n) x y → Puts (spoken a list) x y
+pub puts-refused : (list : Words) (a : Written) (e : Refusal) (n : ℕ) → a ≡ Err e → n ≡ refusal_number e → {x y : Text}
+    → Puts (refused_line n) x y → Puts (spoken a list) x y
 unfolding spoken
 puts-refused list a e n b m p = rw (b, ← m) p
 
 -- the line of two words is that of the order that they are
-pub order-line : (a b : ℕ) (o : ListedOrder) {x : ListedOrder} → meant o ≡ order_of a b → o ≡ x → order_text (order_of a b) ≡ order_text (meant x)
+pub order-line : (a b : ℕ) (o : ListedOrder) {x : ListedOrder} → meant o ≡ order_of a b → o ≡ x
+    → order_text (order_of a b) ≡ order_text (meant x)
 order-line a b o e i = sym (ap order_text e) ∙ ap (λ y. order_text (meant y)) i

@@ -1,14 +1,9 @@
 -- A line read byte by byte asks what document 01's form of the line asks.
-use mathlib.Core.Path.{◌≡◌, refl, sym, ap, ◌∙◌}
-use mathlib.Core.Bool.{Bool, true, false, cond, ◌&&◌, and-false}
-use mathlib.Core.List.{List, [], ◌∷◌, ◌++◌, map, append-nil, append_assoc}
-use Prim.Native.Nat.{ℕ, min, ◌+◌, ◌*◌, ◌≤◌}
-use native.Mathlib.Numerals.{add-one}
-use native.Mathlib.Omega.{arith}
-use lib.Dec.{eqb, ltb, leb}
-use lib.ListN.{length, take, replicate, length-append, length-set}
-use lib.Seq.{take_all, take-suc-set}
-use borrow.Author.Tests.{ltb-true, ltb-false, leb-true, leb-false, eqb-true, eqb-false, le-leb, lt-leb, ne_eqb}
+use Rattle.std.proofs.Common.{◌≡◌, ℕ, ◌+◌, ◌*◌, ◌≤◌, min, Bool, true, false, cond, ◌&&◌, eqb, ltb, leb, List, [], ◌∷◌, ◌++◌, map, length}
+use Rattle.std.proofs.Common.{take, replicate, sym, refl, ap, ◌∙◌, append_assoc, append-nil, add-one, arith, length-append, length-set}
+use Rattle.std.proofs.Common.{take_all, take-suc-set, ltb-false, ltb-true, ne_eqb, eqb-true, le-leb, leb-false, leb-true}
+use mathlib.Core.Bool.{and-false}
+use borrow.Author.Tests.{eqb-false, lt-leb}
 use Rattle.isrc.proofs.Codes.{parse-other}
 use Rattle.std.specs.Prelude.{None, Ok}
 use Rattle.model.specs.Results.{Parsed}
@@ -16,7 +11,8 @@ use Rattle.model.specs.Table.{MARK}
 use Rattle.model.specs.Codes.{is_digit, is_code, value, read_on, number, parse}
 use Rattle.model.specs.Lists.{all}
 use Rattle.model.specs.Printer.{Bytes, at_first, fields, plus, other, decimal_value, is_recording, just_is, form_of}
-use Rattle.script_bytes.specs.Line.{Asked, begin, next_place, moved, longer, next_number, with_digit, entered, step, after, code_of, insertion_of, request_at, request, request_of}
+use Rattle.script_bytes.specs.Line.{Asked, begin, next_place, moved, longer, next_number, with_digit, entered, step, after, code_of}
+use Rattle.script_bytes.specs.Line.{insertion_of, request_at, request, request_of}
 use Rattle.script_bytes.specs.declared.Characters.{Characters}
 use Rattle.script_bytes.specs.declared.LineState.{LineState}
 use Rattle.script_bytes.specs.declared.Place.{Place}
@@ -42,7 +38,8 @@ recorded s r = record { place = Recording; plus = s.plus; code = s.code; recordi
 
 -- what a recording that goes on with the bytes l comes to
 abbrev recorded_as : LineState → ℕ → Bytes → Asked
-recorded_as s r l = cond (all is_digit l && leb (read_on 10 r (map value l)) MARK) (insertion_of (code_of s.code) (read_on 10 r (map value l))) (Ok None)
+recorded_as s r l = cond (all is_digit l && leb (read_on 10 r (map value l)) MARK)
+    (insertion_of (code_of s.code) (read_on 10 r (map value l))) (Ok None)
 
 digit-yes : (s : LineState) (r b : ℕ) → is_digit b ≡ true → leb (r * 10 + value b) MARK ≡ true
     → with_digit (recorded s r) b ≡ recorded s (r * 10 + value b)
@@ -64,13 +61,15 @@ after-recording s r (b ∷ bs) h = go (is_digit b) (leb (r * 10 + value b) MARK)
     go true true e f ih = rw (digit-yes s r b e f, e) (ih (leb-true (r * 10 + value b) MARK f))
     go true false e f ih =
         let n = leb-false (r * 10 + value b) MARK f in
-        let g = lt-leb (read_on 10 (r * 10 + value b) (map value bs)) MARK (omega (arith, reading-grows (r * 10 + value b) (map value bs))) in
+        let g = lt-leb (read_on 10 (r * 10 + value b) (map value bs)) MARK
+        (omega (arith, reading-grows (r * 10 + value b) (map value bs))) in
         rw (digit-no (recorded s r) b (rw (e, f)), e, g, and-false) (after-other (recorded s r) bs)
     go false w e f ih = rw (digit-no (recorded s r) b (rw e), e) (after-other (recorded s r) bs)
 
 -- from the space before it on
 after-recording-start : (s : LineState) (l : Bytes)
-    → request (after (moved (recorded s 0) RecordingStart) l) ≡ cond (is_recording l) (insertion_of (code_of s.code) (decimal_value l)) (Ok None)
+    → request (after (moved (recorded s 0) RecordingStart) l)
+    ≡ cond (is_recording l) (insertion_of (code_of s.code) (decimal_value l)) (Ok None)
 unfolding after step entered next_place with_digit request_at is_recording number
 after-recording-start s [] = refl
 after-recording-start s (b ∷ bs) = after-recording s 0 (b ∷ bs) (omega arith)
@@ -250,7 +249,8 @@ code-byte p code c cs b bs h ih = go (eqb b 32) refl
     go true e = rw (eqb-true b 32 e, fields-space, append-nil) (code-space p code c cs bs h)
     go false e = rw (step-code p code b e, fields-other b bs e, onward-first) (ih (longer code b) (held-more code (c ∷ cs) b h))
 
-after-code : (p : Bool) (code : Characters) (c : ℕ) (cs l : Bytes) → Held code (c ∷ cs) → request (after (coded p code) l) ≡ goes_on p (c ∷ cs) l
+after-code : (p : Bool) (code : Characters) (c : ℕ) (cs l : Bytes) → Held code (c ∷ cs)
+    → request (after (coded p code) l) ≡ goes_on p (c ∷ cs) l
 unfolding after request_at form_of fields
 after-code true code c cs [] h = refl
 after-code false code c cs [] h = rw (append-nil, held-code code (c ∷ cs) h)
@@ -265,11 +265,13 @@ first-onward : (b : ℕ) (fs : List Bytes) → at_first b fs ≡ onward (b ∷ [
 first-onward b [] = refl
 first-onward b (f ∷ fs) = refl
 
-code-start-byte : (p : Bool) (b : ℕ) (bs : Bytes) → request (after (step (signed p CodeStart) b) bs) ≡ request_of (form_of ((sign_of p ∷ []) ∷ fields (b ∷ bs)))
+code-start-byte : (p : Bool) (b : ℕ) (bs : Bytes) → request (after (step (signed p CodeStart) b) bs)
+    ≡ request_of (form_of ((sign_of p ∷ []) ∷ fields (b ∷ bs)))
 unfolding step entered next_place
 code-start-byte p b bs = go (eqb b 32) refl
   where
-    go : (t : Bool) → eqb b 32 ≡ t → request (after (step (signed p CodeStart) b) bs) ≡ request_of (form_of ((sign_of p ∷ []) ∷ fields (b ∷ bs)))
+    go : (t : Bool) → eqb b 32 ≡ t → request (after (step (signed p CodeStart) b) bs)
+        ≡ request_of (form_of ((sign_of p ∷ []) ∷ fields (b ∷ bs)))
     go true e = rw (eqb-true b 32 e, fields-space, no-code) (after-other (signed p CodeStart) bs)
     go false e =
         rw (e, fields-other b bs e, first-onward b (fields bs))
@@ -280,11 +282,13 @@ unfolding after request_at form_of fields
 after-code-start p [] = rw and-false
 after-code-start p (b ∷ bs) = code-start-byte p b bs
 
-sign-byte : (p : Bool) (b : ℕ) (bs : Bytes) → request (after (step (signed p Sign) b) bs) ≡ request_of (form_of (at_first (sign_of p) (fields (b ∷ bs))))
+sign-byte : (p : Bool) (b : ℕ) (bs : Bytes) → request (after (step (signed p Sign) b) bs)
+    ≡ request_of (form_of (at_first (sign_of p) (fields (b ∷ bs))))
 unfolding step entered next_place
 sign-byte p b bs = go (eqb b 32) refl
   where
-    go : (t : Bool) → eqb b 32 ≡ t → request (after (step (signed p Sign) b) bs) ≡ request_of (form_of (at_first (sign_of p) (fields (b ∷ bs))))
+    go : (t : Bool) → eqb b 32 ≡ t → request (after (step (signed p Sign) b) bs)
+        ≡ request_of (form_of (at_first (sign_of p) (fields (b ∷ bs))))
     go true e = rw (eqb-true b 32 e, fields-space) (after-code-start p bs)
     go false e = rw (e, fields-other b bs e, long-sign) (after-other (signed p Sign) bs)
 
@@ -297,7 +301,8 @@ first-byte : (b : ℕ) (bs : Bytes) → request (after (step begin b) bs) ≡ re
 unfolding step entered next_place
 first-byte b bs = go (eqb b 43) (eqb b 45) (eqb b 32) refl refl refl
   where
-    go : (p m s : Bool) → eqb b 43 ≡ p → eqb b 45 ≡ m → eqb b 32 ≡ s → request (after (step begin b) bs) ≡ request_of (form_of (fields (b ∷ bs)))
+    go : (p m s : Bool) → eqb b 43 ≡ p → eqb b 45 ≡ m → eqb b 32 ≡ s → request (after (step begin b) bs)
+        ≡ request_of (form_of (fields (b ∷ bs)))
     go true m s e f g = rw (eqb-true b 43 e, fields-other 43 bs refl) (after-sign true bs)
     go false true s e f g = rw (eqb-true b 45 f, fields-other 45 bs refl) (after-sign false bs)
     go false false true e f g = rw (eqb-true b 32 g, fields-space, no-sign [] (fields bs) refl refl) (after-other begin bs)

@@ -1,10 +1,6 @@
 -- The next key up, a leaf a turn: x is leaf n as it was read, y its sibling.
-use mathlib.Core.Path.{◌≡◌, refl, ap, sym, ◌∙◌}
-use mathlib.Core.Bool.{Bool, true, false, cond, false≢true}
-use Prim.Native.Nat.{ℕ, zero, suc, ◌-◌, ◌<◌, ◌≤◌}
-use native.Mathlib.Omega.{arith}
-use lib.Dec.{eqb}
-use borrow.Author.Tests.{eq-eqb, ne_eqb}
+use Rattle.std.proofs.Common.{◌≡◌, ℕ, zero, suc, ◌-◌, ◌<◌, ◌≤◌, Bool, true, false, cond, eqb, sym, refl, ap, ◌∙◌, arith, eq-eqb, ne_eqb}
+use mathlib.Core.Bool.{false≢true}
 use Rattle.std.specs.Prelude.{Option, Some, None, is_some}
 use Rattle.model.specs.declared.Answer.{Answer}
 use Rattle.model.specs.declared.Answer.TheVariants.{Absent, Refused}
@@ -31,7 +27,9 @@ too-many v (suc c) n k h = absurd (omega arith)
 
 -- what a leaf on level 0 answers, with c leaves more after it
 entered : (v : View) (c n k : ℕ) (b : Bool) → passes v 0 n ≡ b
-    → next_from v (suc c) n k ≡ cond b (absent_or (first_above k (kept v n)) (elim (eqb (v.node n).sibling 0) [ true ↦ Absent None | false ↦ next_from v c (v.node n).sibling k ])) (Refused 3)
+    → next_from v (suc c) n k
+    ≡ cond b (absent_or (first_above k (kept v n))
+    (elim (eqb (v.node n).sibling 0) [ true ↦ Absent None | false ↦ next_from v c (v.node n).sibling k ])) (Refused 3)
 unfolding next_from
 entered v c n k true e = rw (e, next_from)
 entered v c n k false e = rw (e, next_from)
@@ -51,7 +49,8 @@ module _ (v : View) (c n k : ℕ) (some : 0 < c) (on : on_level v 0 n ≡ true) 
     unfolding passes
     next-lost e = sym (entered v (c - 1) n k false (rw (on, ne_eqb (v.node n).sibling 0 z, e))) ∙ ap (λ (d : ℕ). next_from v d n k) one
 
-    next-later : on_level v 0 (v.node n).sibling ≡ true → absent_or (first_above k (kept v n)) (next_from v (c - 1) (v.node n).sibling k) ≡ next_from v c n k
+    next-later : on_level v 0 (v.node n).sibling ≡ true
+        → absent_or (first_above k (kept v n)) (next_from v (c - 1) (v.node n).sibling k) ≡ next_from v c n k
     unfolding passes
     next-later e =
         let b = ne_eqb (v.node n).sibling 0 z in
@@ -60,7 +59,8 @@ module _ (v : View) (c n k : ℕ) (some : 0 < c) (on : on_level v 0 n ≡ true) 
 -- ---- from the records
 
 -- the kept slots
-kept-read : (t : Words) (n : ℕ) (x y : Node) → x ≡ node t n → y ≡ node t x.sibling → kept_of x.sibling y.fence (shown_from x.left x.slots 0) ≡ kept (view t) n
+kept-read : (t : Words) (n : ℕ) (x y : Node) → x ≡ node t n → y ≡ node t x.sibling
+    → kept_of x.sibling y.fence (shown_from x.left x.slots 0) ≡ kept (view t) n
 unfolding kept below keeps used
 kept-read t n x y e q =
     ap (λ (w : Node). kept_of x.sibling w.fence (shown_from x.left x.slots 0)) q
@@ -92,7 +92,8 @@ module _ (t : Words) (k : ℕ) (x : Node) (c : ℕ) (r : Answer) (u : Turn t k x
 
   module _ (some : 0 < c) where
     pub turn-last : x.sibling ≡ 0 → (y : Next) → y ≡ first_above k (kept_of 0 0 (shown_from x.left x.slots 0)) → Absent y ≡ r
-    turn-last z y e = ap Absent (e ∙ ap (first_above k) (kept-last t u.at x u.read z)) ∙ next-last (view t) c u.at k some u.on (sym sib ∙ z) ∙ u.rest
+    turn-last z y e = ap Absent (e ∙ ap (first_above k) (kept-last t u.at x u.read z))
+        ∙ next-last (view t) c u.at k some u.on (sym sib ∙ z) ∙ u.rest
 
     module _ (z : x.sibling ≡ 0 → ⊥) (o : Option Node) (i : o ≡ read_if (on_level (view t) 0 x.sibling) (node t x.sibling)) where
       w : (node t u.at).sibling ≡ 0 → ⊥
@@ -101,7 +102,8 @@ module _ (t : Words) (k : ℕ) (x : Node) (c : ℕ) (r : Answer) (u : Turn t k x
       pub turn-lost : o ≡ None → Refused 3 ≡ r
       turn-lost e = next-lost (view t) c u.at k some u.on w (rw sib at (not-read _ (node t x.sibling) (sym i ∙ e))) ∙ u.rest
 
-      module _ (y : Node) (e : o ≡ Some y) (a : Next) (f : a ≡ first_above k (kept_of x.sibling y.fence (shown_from x.left x.slots 0))) where
+      module _ (y : Node) (e : o ≡ Some y) (a : Next)
+          (f : a ≡ first_above k (kept_of x.sibling y.fence (shown_from x.left x.slots 0))) where
         on-sib : on_level (view t) 0 x.sibling ≡ true
         on-sib = (was-read _ (node t x.sibling) y (sym i ∙ e)).0
 
@@ -110,7 +112,8 @@ module _ (t : Words) (k : ℕ) (x : Node) (c : ℕ) (r : Answer) (u : Turn t k x
 
         later : absent_or a (next_from (view t) (c - 1) x.sibling k) ≡ r
         later =
-            ap (λ (o : Next). absent_or o (next_from (view t) (c - 1) x.sibling k)) (f ∙ ap (first_above k) (kept-read t u.at x y u.read is-sib))
+            ap (λ (o : Next). absent_or o (next_from (view t) (c - 1) x.sibling k))
+            (f ∙ ap (first_above k) (kept-read t u.at x y u.read is-sib))
             ∙ ap (λ (m : ℕ). absent_or (first_above k (kept (view t) u.at)) (next_from (view t) (c - 1) m k)) sib
             ∙ next-later (view t) c u.at k some u.on w (rw sib at on-sib) ∙ u.rest
 
@@ -124,6 +127,7 @@ module _ (t : Words) (k : ℕ) (x : Node) (c : ℕ) (r : Answer) (u : Turn t k x
         pub turn-on : is_some a ≡ false → Turn t k y (c - 1) r
         turn-on p = record { at = x.sibling; read = is-sib; on = on-sib; rest = go a later p }
           where
-            go : (b : Next) → absent_or b (next_from (view t) (c - 1) x.sibling k) ≡ r → is_some b ≡ false → next_from (view t) (c - 1) x.sibling k ≡ r
+            go : (b : Next) → absent_or b (next_from (view t) (c - 1) x.sibling k) ≡ r → is_some b ≡ false
+                → next_from (view t) (c - 1) x.sibling k ≡ r
             go None q p = q
             go (Some j) q p = absurd (false≢true (sym p))

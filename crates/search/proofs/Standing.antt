@@ -1,14 +1,8 @@
 -- Where a search stands on a level, by the tests in the order of the code, and what it answers from there.
-use mathlib.Core.Path.{◌≡◌, refl, ap, sym, ◌∙◌, subst}
-use mathlib.Core.Bool.{Bool, true, false, cond, not, ◌&&◌, ◌||◌, false≢true}
-use mathlib.Core.Logic.{◌≢◌, inl}
+use Rattle.std.proofs.Common.{◌≡◌, ℕ, zero, suc, ◌-◌, ◌<◌, ◌≤◌, Bool, true, false, cond, not, ◌&&◌, ◌||◌, eqb, ltb, leb, ◌≢◌, List, [], ◌∷◌}
+use Rattle.std.proofs.Common.{length, sym, refl, ap, ◌∙◌, subst, inl, arith, le-ltb, lt-ltb, eq-eqb, ne_eqb, eqb-true}
+use mathlib.Core.Bool.{false≢true}
 use mathlib.Core.Option.{Option, none, some, some-injective, none-ne-some}
-use Prim.Native.Nat.{ℕ, zero, suc, ◌-◌, ◌≤◌, ◌<◌}
-use native.Mathlib.Omega.{arith}
-use lib.Dec.{eqb, leb, ltb}
-use mathlib.Core.List.{List, [], ◌∷◌}
-use lib.ListN.{length}
-use borrow.Author.Tests.{eqb-true, eq-eqb, ne_eqb, lt-ltb, le-ltb}
 use Rattle.std.specs.Prelude as rust
 use Rattle.std.specs.Prelude.{Some, None, Ok, Err, ok_or}
 use Rattle.std.specs.Bool.{then_some}
@@ -20,7 +14,8 @@ use Rattle.model.specs.declared.Answer.TheVariants.{Refused}
 use Rattle.model.specs.declared.Node.{Node}
 use Rattle.model.specs.Table.{Words, in_range, header_ok, has_node, node, at, nodes, root, root_word, no_collection}
 use Rattle.model.specs.Slots.{Slot, View, node_view, view_from, view, height, used}
-use Rattle.model.specs.Search.{below, moved, route, down, on_level, passes, locate, first_with, next_from, answer_of, answer_in, search_view, search}
+use Rattle.model.specs.Search.{below, moved, route, down, on_level, passes, locate, first_with, next_from, answer_of, answer_in}
+use Rattle.model.specs.Search.{search_view, search}
 use Rattle.model.proofs.Numbers.{Numbered, numbered, handed-number}
 use Rattle.list_laws.proofs.Tools.{Each, and-iff}
 use Rattle.list_laws.proofs.Slots.{each-shown, in-use-some}
@@ -34,16 +29,20 @@ use Rattle.slots.specs.Held.{pointer_in, held_by}
 use Rattle.search.specs.Descent.{looked_at, seen_of, seen_in, read_if, stand_on, locate_from, answer_held}
 use Rattle.search.specs.declared.Stood.{Stood}
 
+-- a table with a right header has at least 40 words
 pub header-words : (t : Words) → header_ok t ≡ true → 40 ≤ length t
 header-words t h = let f = (header-iff t).0 h in omega (arith, f.size.long, f.size.some)
 
 -- ---- on_level, from the record
 
+-- a number that no node has is on no level
 pub level-out : (t : Words) (l n : ℕ) → header_ok t ≡ true → has_node t n ≡ false → on_level (view t) l n ≡ false
 unfolding on_level
 level-out t l n h e = rw (sym (has-node-range t n h) ∙ e)
 
-pub level-in : (t : Words) (l n : ℕ) (x : Node) → header_ok t ≡ true → has_node t n ≡ true → x ≡ node t n → eqb x.level l ≡ on_level (view t) l n
+-- a node of the table is on level l exactly if its level word is l
+pub level-in : (t : Words) (l n : ℕ) (x : Node) → header_ok t ≡ true → has_node t n ≡ true → x ≡ node t n
+    → eqb x.level l ≡ on_level (view t) l n
 unfolding on_level
 level-in t l n x h e q = rw (sym (has-node-range t n h) ∙ e, q)
 
@@ -53,6 +52,7 @@ pub by-test : (b : Bool) (x : Node) → then_some b x ≡ read_if b x
 by-test true x = refl
 by-test false x = refl
 
+-- if a node is not read, its test failed
 pub not-read : (b : Bool) (x : Node) → read_if b x ≡ None → b ≡ false
 not-read true x e = cc
 not-read false x e = refl
@@ -64,28 +64,33 @@ was-read false x y e = cc
 pub read-out : (t : Words) (l n : ℕ) → header_ok t ≡ true → has_node t n ≡ false → None ≡ read_if (on_level (view t) l n) (node t n)
 read-out t l n h e = rw (level-out t l n h e)
 
-pub read-in : (t : Words) (l n : ℕ) (x : Node) (r : rust.Option Node) → header_ok t ≡ true → has_node t n ≡ true → x ≡ node t n → r ≡ then_some (eqb x.level l) x
+pub read-in : (t : Words) (l n : ℕ) (x : Node) (r : rust.Option Node) → header_ok t ≡ true → has_node t n ≡ true → x ≡ node t n → r
+    ≡ then_some (eqb x.level l) x
     → r ≡ read_if (on_level (view t) l n) (node t n)
 read-in t l n x r h e q d =
     d ∙ by-test (eqb x.level l) x ∙ ap (λ (b : Bool). read_if b x) (level-in t l n x h e q) ∙ ap (read_if (on_level (view t) l n)) q
 
 -- a search that a test failed for is refused with 3
-pub got-none : {T : Type 0} (o : rust.Option T) {e : Refusal} → ok_or o SearchLost ≡ Err e → (o ≡ None) × (Refused (refusal_number e) ≡ Refused 3)
+pub got-none : {T : Type 0} (o : rust.Option T) {e : Refusal} → ok_or o SearchLost ≡ Err e → (o ≡ None)
+    × (Refused (refusal_number e) ≡ Refused 3)
 got-none None h = let p : SearchLost ≡ _ = cc in (refl, ap (λ (e : Refusal). Refused (refusal_number e)) (sym p))
 got-none (Some x) h = cc
 
+-- if a value comes of an option, the option had it
 pub got-some : {T : Type 0} (o : rust.Option T) {x : T} → ok_or o SearchLost ≡ Ok x → o ≡ Some x
 got-some None h = cc
 got-some (Some y) h = cc
 
 -- x is node n on level l
 module _ (t : Words) (l n : ℕ) (x : Node) (e : read_if (on_level (view t) l n) (node t n) ≡ Some x) where
+  -- a node that is read after the test for level l has level l
   pub level-read : x.level ≡ l
   unfolding on_level
   level-read =
       let u = was-read (on_level (view t) l n) (node t n) x e in
       ap (λ (y : Node). y.level) u.1 ∙ eqb-true _ _ ((and-iff (in_range (nodes t) n) _).0 u.0).1
 
+  -- a node that is read after the test for its level is on its own level
   pub come-on : on_level (view t) x.level n ≡ true
   come-on = rw level-read (was-read (on_level (view t) l n) (node t n) x e).0
 
@@ -96,6 +101,7 @@ pub record Stands (v : View) (l n k m : ℕ) : Type 0 where
   pub passed : passes v l n ≡ true
   pub on : moved v n k ≡ m
 
+-- a node that is not on the level does not pass
 pub pass-off : (v : View) (l n : ℕ) → on_level v l n ≡ false → passes v l n ≡ false
 unfolding passes
 pass-off v l n e = rw e
@@ -128,6 +134,7 @@ module _ (t : Words) (l n k : ℕ) (x : Node) (q : x ≡ node t n) (on : on_leve
   sib : x.sibling ≡ (node t n).sibling
   sib = ap (λ (w : Node). w.sibling) q
 
+  -- a search that comes to a node without a sibling stands on it
   pub stands-last : x.sibling ≡ 0 → Stands (view t) l n k n
   stands-last z = stand-last (view t) l n k on (sym sib ∙ z)
 
@@ -135,6 +142,7 @@ module _ (t : Words) (l n k : ℕ) (x : Node) (q : x ≡ node t n) (on : on_leve
     w : (node t n).sibling ≡ 0 → ⊥
     w e = z (sib ∙ e)
 
+    -- if the sibling is not on the level, the node does not pass
     pub stands-off : o ≡ None → passes (view t) l n ≡ false
     stands-off e = lost-sibling (view t) l n k on w (rw sib at (not-read _ (node t x.sibling) (sym i ∙ e)))
 
@@ -148,34 +156,43 @@ module _ (t : Words) (l n k : ℕ) (x : Node) (q : x ≡ node t n) (on : on_leve
       bound : y.fence ≡ (node t (node t n).sibling).fence
       bound = ap (λ (u : Node). u.fence) sibling-is ∙ ap (λ (m : ℕ). (node t m).fence) sib
 
+      -- a search for a key below the sibling's fence stands on the node itself
       pub stands-here : k < y.fence → Stands (view t) l n k n
       stands-here h = stand-here (view t) l n k on w sibling-on (subst (λ (u : ℕ). k < u) bound h)
 
+      -- a search for a key from the sibling's fence up stands on the sibling
       pub stands-right : y.fence ≤ k → Stands (view t) l n k x.sibling
       stands-right h = rw sib (stand-right (view t) l n k on w sibling-on (subst (λ (u : ℕ). u ≤ k) bound h))
 
 -- ---- what is seen of the node that it stands on
 
-pub down-read : (t : Words) (m k : ℕ) (x : Node) (r : ℕ) → x ≡ node t m → r ≡ route k x.left (shown_from x.left x.slots 0) → r ≡ down (view t) m k
+pub down-read : (t : Words) (m k : ℕ) (x : Node) (r : ℕ) → x ≡ node t m → r
+    ≡ route k x.left (shown_from x.left x.slots 0) → r ≡ down (view t) m k
 unfolding used
 down-read t m k x r q h = h ∙ ap (λ (y : Node). route k y.left (shown_from y.left y.slots 0)) q
 
-pub held-read : (t : Words) (m k : ℕ) (x : Node) (r : rust.Option ℕ) → x ≡ node t m → r ≡ held_by (first_with k (shown_from x.left x.slots 0)) → r ≡ held_by (first_with k (node_view t m).shown)
+-- the pointer found for k among the words of a node is the one found among its shown slots
+pub held-read : (t : Words) (m k : ℕ) (x : Node) (r : rust.Option ℕ) → x ≡ node t m → r
+    ≡ held_by (first_with k (shown_from x.left x.slots 0)) → r ≡ held_by (first_with k (node_view t m).shown)
 unfolding used
 held-read t m k x r q h = h ∙ ap (λ (y : Node). held_by (first_with k (shown_from y.left y.slots 0))) q
 
 -- no slot in use has pointer 0: so a pointer that is not 0 is one that was found
-held-some : (k : ℕ) (ss : List Slot) → Each (λ (s : Slot). s.pointer ≢ 0) ss → then_some (not (eqb (pointer_in (first_with k ss)) 0)) (pointer_in (first_with k ss)) ≡ held_by (first_with k ss)
+held-some : (k : ℕ) (ss : List Slot) → Each (λ (s : Slot). s.pointer ≢ 0) ss
+    → then_some (not (eqb (pointer_in (first_with k ss)) 0)) (pointer_in (first_with k ss)) ≡ held_by (first_with k ss)
 unfolding first_with
 held-some k [] h = refl
 held-some k (s ∷ ss) h = go (eqb s.key k) refl (held-some k ss h.1)
   where
-    go : (b : Bool) → eqb s.key k ≡ b → then_some (not (eqb (pointer_in (first_with k ss)) 0)) (pointer_in (first_with k ss)) ≡ held_by (first_with k ss)
-        → then_some (not (eqb (pointer_in (first_with k (s ∷ ss))) 0)) (pointer_in (first_with k (s ∷ ss))) ≡ held_by (first_with k (s ∷ ss))
+    go : (b : Bool) → eqb s.key k ≡ b → then_some (not (eqb (pointer_in (first_with k ss)) 0)) (pointer_in (first_with k ss))
+        ≡ held_by (first_with k ss)
+        → then_some (not (eqb (pointer_in (first_with k (s ∷ ss))) 0)) (pointer_in (first_with k (s ∷ ss)))
+        ≡ held_by (first_with k (s ∷ ss))
     go true e ih = rw (e, first_with) (rw (ne_eqb s.pointer 0 h.0))
     go false e ih = rw (e, first_with) ih
 
-pub looked : (n k : ℕ) (x : Node) (way p : ℕ) (held : rust.Option ℕ) → way ≡ route k x.left (shown_from x.left x.slots 0) → p ≡ pointer_in (first_with k (shown_from x.left x.slots 0))
+pub looked : (n k : ℕ) (x : Node) (way p : ℕ) (held : rust.Option ℕ) → way ≡ route k x.left (shown_from x.left x.slots 0) → p
+    ≡ pointer_in (first_with k (shown_from x.left x.slots 0))
     → held ≡ then_some (not (eqb p 0)) p → record { node = n; way = way; held = held } ≡ looked_at n x k
 looked n k x way p held w q h =
     let ss = shown_from x.left x.slots 0 in
@@ -188,10 +205,12 @@ looked-seen t m k x q =
     let h = held-read t m k x _ q refl in
     (λ i. record { node = m; way = w i; held = h i })
 
+-- if a search stands on m, m is the node that it is said to stand on
 pub stands-on : (v : View) (l n k m : ℕ) → Stands v l n k m → stand_on v l n k ≡ some m
 unfolding stand_on
 stands-on v l n k m s = rw s.passed (ap some s.on)
 
+-- if the node does not pass, the search stands on no node
 pub stands-off-on : (v : View) (l n k : ℕ) → passes v l n ≡ false → stand_on v l n k ≡ none
 unfolding stand_on
 stands-off-on v l n k e = rw e
@@ -199,16 +218,19 @@ stands-off-on v l n k e = rw e
 pub seen-lost : (v : View) (l n k : ℕ) → passes v l n ≡ false → None ≡ seen_in v k (stand_on v l n k)
 seen-lost v l n k e = sym (ap (seen_in v k) (stands-off-on v l n k e))
 
-pub come-level : (t : Words) (l n : ℕ) (x : Node) (k : ℕ) → read_if (on_level (view t) l n) (node t n) ≡ Some x → seen_in (view t) k (stand_on (view t) x.level n k) ≡ seen_in (view t) k (stand_on (view t) l n k)
+pub come-level : (t : Words) (l n : ℕ) (x : Node) (k : ℕ) → read_if (on_level (view t) l n) (node t n) ≡ Some x
+    → seen_in (view t) k (stand_on (view t) x.level n k) ≡ seen_in (view t) k (stand_on (view t) l n k)
 come-level t l n x k e = ap (λ (m : ℕ). seen_in (view t) k (stand_on (view t) m n k)) (level-read t l n x e)
 
 -- of node m, which is x
-pub seen-read : (t : Words) (l n k m : ℕ) (x : Node) (s : Stood) → Stands (view t) l n k m → x ≡ node t m → s ≡ looked_at m x k → Some s ≡ seen_in (view t) k (stand_on (view t) l n k)
+pub seen-read : (t : Words) (l n k m : ℕ) (x : Node) (s : Stood) → Stands (view t) l n k m → x ≡ node t m → s ≡ looked_at m x k → Some s
+    ≡ seen_in (view t) k (stand_on (view t) l n k)
 seen-read t l n k m x s d q e = ap Some (e ∙ looked-seen t m k x q) ∙ sym (ap (seen_in (view t) k) (stands-on (view t) l n k m d))
 
 -- ---- coming down to level 0
 
 module _ (v : View) (l n k : ℕ) where
+  -- if the node does not pass, no leaf is found
   pub locate-failed : passes v l n ≡ false → locate v l n k ≡ none
   unfolding locate
   locate-failed p = go l p
@@ -217,6 +239,7 @@ module _ (v : View) (l n k : ℕ) where
       go zero p = rw (p, locate)
       go (suc l) p = rw (p, locate)
 
+  -- if a node above the leaves passes, the leaf is looked for from its child for k
   pub locate-passed : passes v (suc l) n ≡ true → locate v (suc l) n k ≡ locate v l (down v (moved v n k) k) k
   unfolding locate
   locate-passed p = rw (p, locate)
@@ -230,14 +253,18 @@ locate-leaf v n k = go (passes v 0 n) refl
     go true p = sym (rw (p, locate))
     go false p = sym (rw (p, locate))
 
-pub stand-some : (v : View) (l n k : ℕ) (s : Stood) → seen_in v k (stand_on v l n k) ≡ Some s → (passes v l n ≡ true) × (s ≡ seen_of v k (moved v n k))
+-- if something is seen, the node passes, and it is seen of the node that the search stands on
+pub stand-some : (v : View) (l n k : ℕ) (s : Stood) → seen_in v k (stand_on v l n k) ≡ Some s → (passes v l n ≡ true)
+    × (s ≡ seen_of v k (moved v n k))
 unfolding stand_on
 stand-some v l n k s e = go (passes v l n) refl e
   where
-    go : (b : Bool) → passes v l n ≡ b → seen_in v k (cond b (some (moved v n k)) none) ≡ Some s → (passes v l n ≡ true) × (s ≡ seen_of v k (moved v n k))
+    go : (b : Bool) → passes v l n ≡ b → seen_in v k (cond b (some (moved v n k)) none) ≡ Some s → (passes v l n ≡ true)
+        × (s ≡ seen_of v k (moved v n k))
     go true p q = (p, cc)
     go false p q = cc
 
+-- if nothing is seen, the node does not pass
 pub stand-none : (v : View) (l n k : ℕ) → seen_in v k (stand_on v l n k) ≡ None → passes v l n ≡ false
 unfolding stand_on
 stand-none v l n k e = go (passes v l n) refl e
@@ -271,7 +298,8 @@ module _ (v : View) (k levels : ℕ) (s : Stood) (r : rust.Option Stood) (some-l
   pub turn-lost : (o : rust.Option Stood) → o ≡ seen_in v k (stand_on v (levels - 1) s.way k) → o ≡ None → None ≡ r
   turn-lost o e z = comes-not v (levels - 1) s.way k (sym e ∙ z) ∙ left-one
 
-  pub turn-down : (o : rust.Option Stood) (y : Stood) → o ≡ seen_in v k (stand_on v (levels - 1) s.way k) → o ≡ Some y → from_there v k (levels - 1) y ≡ r
+  pub turn-down : (o : rust.Option Stood) (y : Stood) → o ≡ seen_in v k (stand_on v (levels - 1) s.way k) → o ≡ Some y
+      → from_there v k (levels - 1) y ≡ r
   turn-down o y e z = comes v (levels - 1) s.way k y (sym e ∙ z) ∙ left-one
 
 pub turned : (v : View) (k levels : ℕ) (s : Stood) (r : rust.Option Stood) → levels ≡ 0 → from_there v k levels s ≡ r → Some s ≡ r
@@ -280,10 +308,12 @@ turned v k levels s r z e = rw z at e
 
 -- ---- the root
 
+-- from a node on a level of at most 15, the leaf is looked for down from that level
 pub within-in : (v : View) (n k : ℕ) → leb (v.node n).level 15 ≡ true → locate_from v n k ≡ locate v (v.node n).level n k
 unfolding locate_from
 within-in v n k e = rw e
 
+-- from a node on a level above 15 no leaf is found
 pub within-high : (v : View) (n k : ℕ) → leb (v.node n).level 15 ≡ false → locate_from v n k ≡ none
 unfolding locate_from
 within-high v n k e = rw e
@@ -296,7 +326,9 @@ within-lost v n k f = go (leb (v.node n).level 15)
     go true = locate-failed v (v.node n).level n k (f (v.node n).level)
     go false = refl
 
-module _ (t : Words) (r k : ℕ) (h : header_ok t ≡ true) (o : rust.Option Node) (i : o ≡ read_if (has_node t r && leb (node t r).level 15) (node t r)) where
+module _ (t : Words) (r k : ℕ) (h : header_ok t ≡ true) (o : rust.Option Node)
+    (i : o ≡ read_if (has_node t r && leb (node t r).level 15) (node t r)) where
+  -- if the root is not read, no leaf is found
   pub root-lost : o ≡ None → locate_from (view t) r k ≡ none
   root-lost z = go (has_node t r) (leb (node t r).level 15) refl refl (not-read _ (node t r) (sym i ∙ z))
     where
@@ -312,9 +344,11 @@ module _ (t : Words) (r k : ℕ) (h : header_ok t ≡ true) (o : rust.Option Nod
     pub root-is : x ≡ node t r
     root-is = (was-read (has_node t r && leb (node t r).level 15) (node t r) x (sym i ∙ z)).1
 
+    -- a root that is read is on its own level
     pub root-on : on_level (view t) x.level r ≡ true
     root-on = sym (level-in t x.level r x h root-tests.0 root-is) ∙ eq-eqb x.level x.level refl
 
+    -- from a root that is read, the leaf is looked for down from its level
     pub from-level : locate (view t) x.level r k ≡ locate_from (view t) r k
     from-level = ap (λ (l : ℕ). locate (view t) l r k) (ap (λ (y : Node). y.level) root-is) ∙ sym (within-in (view t) r k root-tests.1)
 
@@ -328,7 +362,8 @@ on-moved v l n k p = go (on_level v l n) (eqb s 0) (on_level v l s) (ltb k (v.no
     s : ℕ
     s = (v.node n).sibling
 
-    go : (a b c d : Bool) → on_level v l n ≡ a → on_level v l s ≡ c → (a && (b || c)) ≡ true → on_level v l (elim (b || d) as (λ e. ℕ) [ true ↦ n | false ↦ s ]) ≡ true
+    go : (a b c d : Bool) → on_level v l n ≡ a → on_level v l s ≡ c → (a && (b || c)) ≡ true
+        → on_level v l (elim (b || d) as (λ e. ℕ) [ true ↦ n | false ↦ s ]) ≡ true
     go true true c d e f p = e
     go true false true true e f p = e
     go true false true false e f p = f
@@ -340,7 +375,8 @@ leaf-on : (v : View) (n k m : ℕ) → locate v 0 n k ≡ some m → on_level v 
 unfolding locate
 leaf-on v n k m e = go (passes v 0 n) refl e
   where
-    go : (b : Bool) → passes v 0 n ≡ b → elim b as (λ c. Option ℕ) [ true ↦ some (moved v n k) | false ↦ none ] ≡ some m → on_level v 0 m ≡ true
+    go : (b : Bool) → passes v 0 n ≡ b → elim b as (λ c. Option ℕ) [ true ↦ some (moved v n k) | false ↦ none ]
+        ≡ some m → on_level v 0 m ≡ true
     go true p e = subst (λ (x : ℕ). on_level v 0 x ≡ true) (some-injective _ _ e) (on-moved v 0 n k p)
     go false p e = absurd (none-ne-some m e)
 
@@ -348,10 +384,12 @@ located-on : (v : View) (l n k m : ℕ) → locate v l n k ≡ some m → on_lev
 located-on v zero n k m e = leaf-on v n k m e
 located-on v (suc l) n k m e = go (passes v (suc l) n) refl (located-on v l (down v (moved v n k) k) k m)
   where
-    go : (b : Bool) → passes v (suc l) n ≡ b → (locate v l (down v (moved v n k) k) k ≡ some m → on_level v 0 m ≡ true) → on_level v 0 m ≡ true
+    go : (b : Bool) → passes v (suc l) n ≡ b
+        → (locate v l (down v (moved v n k) k) k ≡ some m → on_level v 0 m ≡ true) → on_level v 0 m ≡ true
     go true p f = f (sym (locate-passed v l n k p) ∙ e)
     go false p f = absurd (none-ne-some m (sym (locate-failed v (suc l) n k p) ∙ e))
 
+-- a leaf that is found is on level 0
 pub within-on : (v : View) (n k m : ℕ) → locate_from v n k ≡ some m → on_level v 0 m ≡ true
 within-on v n k m e = go (leb (v.node n).level 15) refl
   where
@@ -359,6 +397,7 @@ within-on v n k m e = go (leb (v.node n).level 15) refl
     go true p = located-on v (v.node n).level n k m (sym (within-in v n k p) ∙ e)
     go false p = absurd (none-ne-some m (sym (within-high v n k p) ∙ e))
 
+-- the answer by the pointer of a slot is the answer by the slot
 pub held-answer : (o : Option Slot) (x : Answer) → answer_held (held_by o) x ≡ answer_of o x
 held-answer none x = refl
 held-answer (some s) x = refl
@@ -411,13 +450,15 @@ none-seen v k (some m) e = cc
 
 -- what was seen of the leaf come to from root r
 module _ (n : ℕ) (t : Words) (k r : ℕ) (e : r ≡ root_in n t) (z : r ≢ 0) where
+  -- a search from the root that was read answers what a search of the collection does
   pub by-root : answer_in (view t) k (locate_from (view t) r k) ≡ search n t k
   unfolding search
   by-root =
       let u = root-there n t r e z in
       let q = at t (root_word n) in
       let v = view_from t q in
-      any-answer t (root t) q k (locate_from (view t) r k) ∙ ap (answer_in v k) (any-within t (root t) q r k ∙ ap (λ (i : ℕ). locate_from v i k) u.2)
+      any-answer t (root t) q k (locate_from (view t) r k)
+      ∙ ap (answer_in v k) (any-within t (root t) q r k ∙ ap (λ (i : ℕ). locate_from v i k) u.2)
       ∙ from-root v k ∙ sym (rw (u.0, u.1, search))
 
   -- none
@@ -442,4 +483,5 @@ module _ (n : ℕ) (t : Words) (k r : ℕ) (e : r ≡ root_in n t) (z : r ≢ 0)
     pub answered : (x : Answer) → x ≡ answer_held s.held (next_from (view t) (nodes t) s.node k) → x ≡ search n t k
     answered x g =
         let rest = next_from (view t) (nodes t) s.node k in
-        g ∙ ap (λ (y : Stood). answer_held y.held rest) come.1 ∙ held-answer (first_with k (node_view t s.node).shown) rest ∙ ap (answer_in (view t) k) (sym come.0) ∙ by-root
+        g ∙ ap (λ (y : Stood). answer_held y.held rest) come.1 ∙ held-answer (first_with k (node_view t s.node).shown) rest
+        ∙ ap (answer_in (view t) k) (sym come.0) ∙ by-root

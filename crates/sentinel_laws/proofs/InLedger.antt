@@ -1,12 +1,6 @@
 -- The number of a call that takes sentinels is the ledger's, which knows their length and the table's.
-use mathlib.Core.Path.{◌≡◌, refl, sym, ◌∙◌}
-use mathlib.Core.Bool.{Bool, true, false, not}
-use mathlib.Core.Logic.{◌≢◌}
-use mathlib.Core.List.{[], ◌∷◌}
-use Prim.Native.Nat.{ℕ, ◌*◌}
-use native.Mathlib.Omega.{arith}
-use lib.Dec.{eqb}
-use borrow.Author.Tests.{eqb-true, eqb-false}
+use Rattle.std.proofs.Common.{◌≡◌, ℕ, ◌*◌, Bool, true, false, not, eqb, ◌≢◌, [], ◌∷◌, sym, refl, ◌∙◌, arith, eqb-true}
+use borrow.Author.Tests.{eqb-false}
 use Rattle.model.specs.Table.{Words, nodes, header_ok}
 use Rattle.model.specs.SoundTest.{sound}
 use Rattle.model.specs.Reached.{maps_of}
@@ -25,7 +19,9 @@ module _ (x : Call) (m words dock : ℕ) (t : Words) where
   unfolding refusal_with slice_number
   number-plain k a b c = go (header_ok t) (seventeen_in x t) (eqb m (3 * nodes t))
     where
-      go : (p q r : Bool) → (let n = first_number (test (not p) 2 ∷ test q 17 ∷ test (not r) 19 ∷ []) in unless_refused n (refusal x words dock t) n ≡ k) → refusal x words dock t ≡ k
+      go : (p q r : Bool) →
+          (let n = first_number (test (not p) 2 ∷ test q 17 ∷ test (not r) 19 ∷ []) in unless_refused n (refusal x words dock t) n ≡ k)
+          → refusal x words dock t ≡ k
       go true true r h = absurd (b (sym h))
       go true false true h = h
       go true false false h = absurd (c (sym h))
@@ -43,16 +39,20 @@ module _ (x : Call) (m words dock : ℕ) (t : Words) where
     unfolding refusal_with ledger_refusal
     lacking-there h f = rw (slice-lacks (seventeen_in x t) m t (sound-head t s) h, sym (seventeen-same x t) ∙ h)
 
-    wrong-there : seventeen_in x t ≡ false → eqb m (3 * nodes t) ≡ false → (f : ℕ) → refusal_with x m words dock t ≡ ledger_refusal x other words dock f (maps_of t)
+    wrong-there : seventeen_in x t ≡ false → eqb m (3 * nodes t) ≡ false → (f : ℕ) → refusal_with x m words dock t
+        ≡ ledger_refusal x other words dock f (maps_of t)
     unfolding refusal_with ledger_refusal
-    wrong-there h q f = rw (slice-wrong (seventeen_in x t) m t (sound-head t s) h (eqb-false m (3 * nodes t) q), sym (seventeen-same x t) ∙ h, q)
+    wrong-there h q f = rw
+        (slice-wrong (seventeen_in x t) m t (sound-head t s) h (eqb-false m (3 * nodes t) q), sym (seventeen-same x t) ∙ h, q)
 
     right-there : seventeen_in x t ≡ false → eqb m (3 * nodes t) ≡ true → refusal_with x m words dock t ≡ refusal x words dock t
     unfolding refusal_with
     right-there h q = rw (slice-right (seventeen_in x t) m t (sound-head t s) h (eqb-true m (3 * nodes t) q))
 
     -- the same number as in the ledger
-    pub with-in-ledger : refusal_with x m words dock t ≡ ledger_refusal x (not (eqb m (3 * nodes t))) words dock (fed_of (refusal_with x m words dock t)) (maps_of t)
+    pub with-in-ledger :
+        refusal_with x m words dock t
+        ≡ ledger_refusal x (not (eqb m (3 * nodes t))) words dock (fed_of (refusal_with x m words dock t)) (maps_of t)
     with-in-ledger = go (seventeen_in x t) refl (eqb m (3 * nodes t)) refl
       where
         go : (b : Bool) → seventeen_in x t ≡ b → (c : Bool) → eqb m (3 * nodes t) ≡ c

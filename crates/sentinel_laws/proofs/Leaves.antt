@@ -1,10 +1,5 @@
 -- The leaves of a sound table are the reached nodes on level 0.
-use mathlib.Core.Path.{◌≡◌, refl, ap, ◌∙◌}
-use mathlib.Core.Bool.{Bool, true, false, ◌&&◌, ◌||◌}
-use mathlib.Core.Logic.{◌≢◌, ◌⊎◌, inl, inr}
-use mathlib.Core.List.{List, ◌++◌, append-nil}
-use Prim.Native.Nat.{ℕ}
-use lib.Dec.{eqb}
+use Rattle.std.proofs.Common.{◌≡◌, ℕ, Bool, true, false, ◌&&◌, ◌||◌, eqb, ◌≢◌, ◌⊎◌, List, ◌++◌, refl, ap, ◌∙◌, inl, inr, append-nil}
 use Rattle.model.specs.Table.{Words, at, node}
 use Rattle.model.specs.Slots.{View, view_of}
 use Rattle.model.specs.Reached.{flat, reached, leaves, reached_all}
@@ -30,6 +25,7 @@ both true false true = refl
 both true false false = refl
 both false b z = refl
 
+-- in a sound table a node is one of the leaves exactly if it is reached and on level 0
 pub leaves-level : (t : Words) (n : ℕ) → sound t ≡ true → elem n (leaves_all t) ≡ (elem n (reached_all t) && eqb (node t n).level 0)
 unfolding leaves_all flat
 leaves-level t n s = go (same-or-not (at t 3) 0)
@@ -41,7 +37,11 @@ leaves-level t n s = go (same-or-not (at t 3) 0)
     second z = one-tree (view_of 2 t) n (collection-orderly 2 t s (second-there t z))
 
     go : (at t 3 ≡ 0) ⊎ (at t 3 ≢ 0) → elem n (leaves_all t) ≡ (elem n (reached_all t) && eqb (node t n).level 0)
-    go (inl z) = ap (λ (vs : List View). elem n (flat leaves vs)) (trees-one t z) ∙ ap (elem n) (append-nil (leaves (view_of 1 t))) ∙ first ∙ rw (elem-alone t z n)
+    go (inl z) = ap (λ (vs : List View). elem n (flat leaves vs)) (trees-one t z) ∙ ap (elem n) (append-nil (leaves (view_of 1 t)))
+        ∙ first ∙ rw (elem-alone t z n)
     go (inr z) =
-        ap (λ (vs : List View). elem n (flat leaves vs)) (trees-two t z) ∙ ap (λ (l : List ℕ). elem n (leaves (view_of 1 t) ++ l)) (append-nil (leaves (view_of 2 t)))
-        ∙ elem-join n (leaves (view_of 1 t)) (leaves (view_of 2 t)) ∙ rw (first, second z, elem-beside t z n) (both (elem n (reached (view_of 1 t))) (elem n (reached (view_of 2 t))) (eqb (node t n).level 0))
+        ap (λ (vs : List View). elem n (flat leaves vs)) (trees-two t z)
+        ∙ ap (λ (l : List ℕ). elem n (leaves (view_of 1 t) ++ l)) (append-nil (leaves (view_of 2 t)))
+        ∙ elem-join n (leaves (view_of 1 t)) (leaves (view_of 2 t))
+        ∙ rw (first, second z, elem-beside t z n)
+        (both (elem n (reached (view_of 1 t))) (elem n (reached (view_of 2 t))) (eqb (node t n).level 0))

@@ -1,19 +1,15 @@
 -- An accepted call leaves each node that it does not store to reached, or not reached, as it was.
-use mathlib.Core.Path.{◌≡◌, refl, sym, ap, ◌∙◌}
-use mathlib.Core.Bool.{Bool, true, false}
-use mathlib.Core.Logic.{◌≢◌}
-use mathlib.Core.List.{List, [], ◌∷◌, ◌++◌}
-use Prim.Native.Nat.{ℕ, zero, suc, ◌≤◌, ◌<◌}
-use native.Mathlib.Omega.{arith}
-use lib.ListN.{length}
+use Rattle.std.proofs.Common.{◌≡◌, ℕ, zero, suc, ◌<◌, ◌≤◌, Bool, true, false, ◌≢◌, List, [], ◌∷◌, ◌++◌, length, sym, refl, ap, ◌∙◌, arith}
 use Rattle.model.specs.Table.{Words, at, node_start, root_word, no_collection}
 use Rattle.model.specs.Slots.{pointer_of, node_view, view_of, height}
 use Rattle.model.specs.Reached.{reached_all, map_of}
 use Rattle.model.specs.SoundTest.{elem, nothing, sound}
 use Rattle.model.specs.Orders.{Store, apply}
 use Rattle.model.specs.Shifts.{shift_out}
-use Rattle.model.specs.Writes.{shift_in_at, shift_out_at, put_all, split, split_words, node_words, new_root, fresh, standing, run, root_in_run, splits, root_stores, insert_settled, insert_stores}
-use Rattle.model.specs.Writes.{frees_leaf, delete_settled, delete_stores, class_stores, repair_stores, repaired, Call, insertion, deletion, class_change, repair, stores_of}
+use Rattle.model.specs.Writes.{shift_in_at, shift_out_at, put_all, split, split_words, node_words, new_root, fresh, standing, run}
+use Rattle.model.specs.Writes.{root_in_run, splits, root_stores, insert_settled, insert_stores}
+use Rattle.model.specs.Writes.{frees_leaf, delete_settled, delete_stores, class_stores, repair_stores, repaired, Call, insertion, deletion}
+use Rattle.model.specs.Writes.{class_change, repair, stores_of}
 use Rattle.model.specs.Refusals.{has_key, too_high, too_few, refusal}
 use Rattle.model.specs.Sentinels.{stores_to_node}
 use Rattle.list_laws.proofs.Slots.{place-length}
@@ -25,7 +21,8 @@ use Rattle.two_laws.proofs.TwoLaw.{Tree}
 use Rattle.two_laws.proofs.Arrange.{Arr, arr-low, root-in, settled-tree, free-fresh}
 use Rattle.two_laws.proofs.SplitTwo.{length-split}
 use Rattle.two_laws.proofs.LeafStores.{in-reached, class-reached, Leaf, leaf-for}
-use Rattle.two_laws.proofs.InsertTwo.{stands-reached, first-arr, ready-next, first-others, splits-course, splits-room, some-free, root-first, root-arr, first-root-others}
+use Rattle.two_laws.proofs.InsertTwo.{stands-reached, first-arr, ready-next, first-others, splits-course, splits-room, some-free}
+use Rattle.two_laws.proofs.InsertTwo.{root-first, root-arr, first-root-others}
 use Rattle.two_laws.proofs.DeleteTwo.{stores-freeing, settled-others, settled-stays}
 use Rattle.two_laws.proofs.CallsTwo.{repairs, arranged, is-repaired}
 use Rattle.two_laws.proofs.AcceptedTwo.{there, accepted-iff}
@@ -40,10 +37,12 @@ same-exact : (x : ℕ) (ss : List Store) (t : Words) → reached_all (apply ss t
 same-exact x ss t e h = ap (elem x) e
 
 same-append : (x : ℕ) (ss us : List Store) (t : Words) → SameReach x ss t → SameReach x us (apply ss t) → SameReach x (ss ++ us) t
-same-append x ss us t f g h = let u = (stored-append ss us x).0 h in ap (λ (z : Words). elem x (reached_all z)) (apply-append ss us t) ∙ g u.1 ∙ f u.0
+same-append x ss us t f g h = let u =
+    (stored-append ss us x).0 h in ap (λ (z : Words). elem x (reached_all z)) (apply-append ss us t) ∙ g u.1 ∙ f u.0
 
 -- a node that is written whole is stored to
-new-stored : (b : ℕ) (ws : Words) (us : List Store) (x : ℕ) → 1 ≤ b → 0 < length ws → stores_to_node (put_all (node_start b) ws ++ us) x ≡ false → x ≢ b
+new-stored : (b : ℕ) (ws : Words) (us : List Store) (x : ℕ) → 1 ≤ b → 0 < length ws
+    → stores_to_node (put_all (node_start b) ws ++ us) x ≡ false → x ≢ b
 unfolding put_all
 new-stored b [] us x some l h = absurd (omega arith)
 new-stored b (w ∷ ws) us x some l h = λ e. ((stored-cons _ _ x).0 h).0 (e ∙ sym (node-of b (node_start b) some (omega arith) (omega arith)))
@@ -67,12 +66,17 @@ splits-same (suc l) n ws t k x arr r =
 
 -- ---- the new root, where the run includes the root
 
-module _ (n : ℕ) (ws : List ℕ) (t : Words) (k : ℕ) (arr : Arr (root_word n) ws t) (f : Tree (root_word n) ws t nothing) (not-high : too_high n t k ≡ false) (enough : too_few n t k ≡ false) where
+module _ (n : ℕ) (ws : List ℕ) (t : Words) (k : ℕ) (arr : Arr (root_word n) ws t) (f : Tree (root_word n) ws t nothing)
+    (not-high : too_high n t k ≡ false) (enough : too_few n t k ≡ false) where
   new-root-same : root_in_run n t k ≡ true → (x : ℕ) → SameReach x (new_root n t) t
   new-root-same e x h =
       let b = fresh t (at t (root_word n)) in
-      let some = ((range-iff _ b).0 (free-fresh (root_word n) ws t (at t (root_word n)) arr f (root-in (view_of n t) f.left.orderly) (some-free n ws t k arr f not-high enough e)).range).0 in
-      first-root-others n ws t k arr f not-high enough e x (unfold new_root in new-stored b (node_words _ 0 _ 0 []) _ x some (omega (arith, length-node-words (at t (root_word n)) 0 (suc (height (view_of n t))) 0 [])) h)
+      let some = ((range-iff _ b).0
+      (free-fresh (root_word n) ws t (at t (root_word n)) arr f (root-in (view_of n t) f.left.orderly)
+      (some-free n ws t k arr f not-high enough e)).range).0 in
+      first-root-others n ws t k arr f not-high enough e x
+      (unfold new_root in new-stored b (node_words _ 0 _ 0 []) _ x some
+      (omega (arith, length-node-words (at t (root_word n)) 0 (suc (height (view_of n t))) 0 [])) h)
 
   root-same : (x : ℕ) → SameReach x (root_stores n t k) t
   unfolding root_stores apply
@@ -84,7 +88,8 @@ module _ (n : ℕ) (ws : List ℕ) (t : Words) (k : ℕ) (arr : Arr (root_word n
 
 -- ---- on a settled table
 
-insert-same : (n : ℕ) (ws : List ℕ) (t : Words) (k r c x : ℕ) → Arr (root_word n) ws t → Tree (root_word n) ws t nothing → Enters n k r c t → SameReach x (insert_settled n t k (pointer_of r c)) t
+insert-same : (n : ℕ) (ws : List ℕ) (t : Words) (k r c x : ℕ) → Arr (root_word n) ws t → Tree (root_word n) ws t nothing → Enters n k r c t
+    → SameReach x (insert_settled n t k (pointer_of r c)) t
 unfolding insert_settled
 insert-same n ws t k r c x arr f e =
     let m = run n t k in
@@ -96,7 +101,8 @@ insert-same n ws t k r c x arr f e =
     let y = standing n t₂ 0 k in
     same-append x (root_stores n t k) _ t (root-same n ws t k arr f e.not-high e.enough x)
     (same-append x (splits n m t₁ k) _ t₁ (splits-same m n ws t₁ k x i a.1)
-    (same-exact x (shift_in_at t₂ y k (pointer_of r c)) t₂ (in-reached t₂ y leaf.some leaf.level k (pointer_of r c) (splits-room m n ws t₁ k i a.1))))
+    (same-exact x (shift_in_at t₂ y k (pointer_of r c)) t₂
+    (in-reached t₂ y leaf.some leaf.level k (pointer_of r c) (splits-room m n ws t₁ k i a.1))))
 
 -- the leaf that a deletion empties is stored to
 out-stored : (t : Words) (x k : ℕ) (us : List Store) (y : ℕ) → Leaf t x → stores_to_node (shift_out_at t x k ++ us) y ≡ false → y ≢ x
@@ -104,11 +110,13 @@ unfolding shift_out_at shift_out
 out-stored t x k us y l h e =
     ((stored-cons _ _ y).0 h).0 (e ∙ sym (node-of x _ l.some (omega arith) (omega (arith, l.few, place-length k (node_view t x).shown))))
 
-delete-same : (n : ℕ) (ws : List ℕ) (t : Words) (k x : ℕ) → Arr (root_word n) ws t → Tree (root_word n) ws t nothing → has_key k (map_of n t) ≡ true → SameReach x (delete_settled n t k) t
+delete-same : (n : ℕ) (ws : List ℕ) (t : Words) (k x : ℕ) → Arr (root_word n) ws t → Tree (root_word n) ws t nothing
+    → has_key k (map_of n t) ≡ true → SameReach x (delete_settled n t k) t
 delete-same n ws t k x arr f has = go (frees_leaf n t (standing n t 1 k) (standing n t 0 k)) refl
   where
     go : (b : Bool) → frees_leaf n t (standing n t 1 k) (standing n t 0 k) ≡ b → SameReach x (delete_settled n t k) t
-    go true e h = settled-others n ws t arr f k has e x (out-stored t (standing n t 0 k) k _ x (leaf-for n t k f.left.orderly) (rw (stores-freeing n t k e) at h))
+    go true e h = settled-others n ws t arr f k has e x
+        (out-stored t (standing n t 0 k) k _ x (leaf-for n t k f.left.orderly) (rw (stores-freeing n t k e) at h))
     go false e h = ap (elem x) (settled-stays n ws t arr f k has e)
 
 -- ---- every call
@@ -142,5 +150,6 @@ reached-same (deletion n k) words dock t ok m =
 reached-same (class_change n k c) words dock t ok m =
     let a = (accepted-iff (class_change n k c) words dock t).0 ok in
     let leaf = leaf-for n (repaired t) k (tree t a.sound m n a.collection).left.orderly in
-    then t a.sound m n a.collection _ (same-exact m _ (repaired t) (class-reached (repaired t) (standing n (repaired t) 0 k) leaf.some leaf.level k c leaf.few))
+    then t a.sound m n a.collection _
+    (same-exact m _ (repaired t) (class-reached (repaired t) (standing n (repaired t) 0 k) leaf.some leaf.level k c leaf.few))
 reached-same repair words dock t ok m = repair-same t ((accepted-iff repair words dock t).0 ok).sound m

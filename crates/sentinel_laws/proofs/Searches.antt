@@ -1,15 +1,8 @@
 -- A search that takes the slice: with any words of the right length it is the plain search on a sound table, and on every other table it is
 -- the plain search but for the slot chosen.
-use mathlib.Core.Path.{◌≡◌, refl, sym, ap, ◌∙◌}
-use mathlib.Core.Bool.{Bool, true, false}
-use mathlib.Core.Logic.{◌≢◌, ◌⊎◌, inl, inr}
+use Rattle.std.proofs.Common.{◌≡◌, ℕ, ◌*◌, Bool, true, false, leb, ◌≢◌, ◌⊎◌, length, sym, refl, ap, ◌∙◌, inl, inr, arith, le-leb}
 use mathlib.Core.List.{Memᴰ}
 use mathlib.Core.Option.{Option, none, some, some-injective}
-use Prim.Native.Nat.{ℕ, ◌*◌}
-use lib.Dec.{leb}
-use lib.ListN.{length}
-use borrow.Author.Tests.{le-leb}
-use native.Mathlib.Omega.{arith}
 use Rattle.model.specs.declared.Answer.{Answer}
 use Rattle.model.specs.declared.Answer.TheVariants.{Found, Refused}
 use Rattle.model.specs.Table.{Words, nodes, header_ok, no_collection}
@@ -36,7 +29,8 @@ from-leaf : (v : View) (k : ℕ) → search_view v k ≡ answer_in v k (leaf_sou
 unfolding search_view leaf_sought
 from-leaf v k = go (leb (height v) 15)
   where
-    go : (b : Bool) → elim b as (λ b. Answer) [ true ↦ answer_in v k (locate v (height v) v.root k) | false ↦ Refused 3 ] ≡ answer_in v k (elim b as (λ b. Option ℕ) [ true ↦ locate v (height v) v.root k | false ↦ none ])
+    go : (b : Bool) → elim b as (λ b. Answer) [ true ↦ answer_in v k (locate v (height v) v.root k) | false ↦ Refused 3 ]
+        ≡ answer_in v k (elim b as (λ b. Option ℕ) [ true ↦ locate v (height v) v.root k | false ↦ none ])
     go true = refl
     go false = refl
 
@@ -59,14 +53,17 @@ finds t m k s h = go (first_with k (node_view t m).shown) refl
     go (some x) e = (x, e)
 
 -- on a sound tree it is the only one of its leaf
-only-one : (v : View) (k : ℕ) → Orderly v → (s : Slot) → Memᴰ s (v.node (leaf_for v k)).shown → s.key ≡ k → first_with k (v.node (leaf_for v k)).shown ≡ some s
+only-one : (v : View) (k : ℕ) → Orderly v → (s : Slot) → Memᴰ s (v.node (leaf_for v k)).shown → s.key ≡ k
+    → first_with k (v.node (leaf_for v k)).shown ≡ some s
 unfolding kept
 only-one v k o s m e =
     let x = leaf_for v k in
     let c = leaf-covers v k o in
     let i : within v x s.key ≡ true = ap (within v x) e ∙ c.inside in
     sym (first-filter k (λ (u : Slot). within v x u.key) (v.node x).shown (λ u q. ap (within v x) q ∙ c.inside))
-    ∙ ap (λ (j : ℕ). first_with j (kept v x)) (sym e) ∙ mem-first (v.node x).fence s (kept v x) (kept-rises v x c.good) ((mem-filter (λ (u : Slot). within v x u.key) s (v.node x).shown).1 (m, i))
+    ∙ ap (λ (j : ℕ). first_with j (kept v x)) (sym e)
+    ∙ mem-first (v.node x).fence s (kept v x) (kept-rises v x c.good)
+    ((mem-filter (λ (u : Slot). within v x u.key) s (v.node x).shown).1 (m, i))
 
 -- its leaf
 leaf-is : (v : View) (k : ℕ) → Orderly v → leaf_sought v k ≡ some (leaf_for v k)
@@ -88,10 +85,12 @@ module _ (n : ℕ) (ws t : Words) (k : ℕ) (long : length ws ≡ 3 * nodes t) w
   no-tree h c = rw (slice-lacks (no_collection n t) (length ws) t h c, h, c, search)
 
   module _ (h : header_ok t ≡ true) (c : no_collection n t ≡ false) where
+    -- with a slice of the right length the search looks on the line that it names, then as a plain search does
     pub with-tree : search_with n ws t k ≡ answer_of (led_to ws t k (leaf_sought (view_of n t) k)) (search_view (view_of n t) k)
     unfolding search_with
     with-tree = rw (slice-right (no_collection n t) (length ws) t h c long)
 
+    -- a search of a collection that is there is the search of its tree
     pub plain-tree : search n t k ≡ search_view (view_of n t) k
     unfolding search
     plain-tree = rw (h, c, search)
@@ -111,7 +110,8 @@ search-but-slot n ws t k long = go (header_ok t) refl (no_collection n t) refl
     v : View
     v = view_of n t
 
-    chosen : header_ok t ≡ true → no_collection n t ≡ false → (o : Option Slot) → led_to ws t k (leaf_sought v k) ≡ o → (search_with n ws t k ≡ search n t k) ⊎ OtherSlot n ws t k
+    chosen : header_ok t ≡ true → no_collection n t ≡ false → (o : Option Slot) → led_to ws t k (leaf_sought v k) ≡ o
+        → (search_with n ws t k ≡ search n t k) ⊎ OtherSlot n ws t k
     chosen h c none e = inl (not-led n ws t k long h c e)
     chosen h c (some s) e =
         let (m, l, shows) = led ws t k (leaf_sought v k) s e in
@@ -158,6 +158,8 @@ search-as-plain n ws t k s long = go (no_collection n t) refl
     go false c = chosen c (led_to ws t k (leaf_sought v k)) refl
 
 -- With a slice of another length it is refused with 19, where the header is right and the collection is there.
-pub search-wrong-slice : (n : ℕ) (ws t : Words) (k : ℕ) → header_ok t ≡ true → no_collection n t ≡ false → length ws ≢ 3 * nodes t → search_with n ws t k ≡ Refused 19
+pub search-wrong-slice :
+    (n : ℕ) (ws t : Words) (k : ℕ) → header_ok t ≡ true → no_collection n t ≡ false → length ws ≢ 3 * nodes t
+    → search_with n ws t k ≡ Refused 19
 unfolding search_with
 search-wrong-slice n ws t k h c z = rw (slice-wrong (no_collection n t) (length ws) t h c z)

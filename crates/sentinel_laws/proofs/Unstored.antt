@@ -1,12 +1,7 @@
 -- A node that no store goes to has the words that it had.
-use mathlib.Core.Path.{◌≡◌, refl, sym, ap, ◌∙◌}
-use mathlib.Core.Bool.{false, cond}
-use mathlib.Core.Logic.{◌≢◌, ◌↔◌}
-use mathlib.Core.List.{List, [], ◌∷◌, ◌++◌, map, map-append}
-use Prim.Native.Nat.{ℕ, ◌+◌, ◌≤◌, ◌<◌}
-use native.Mathlib.Omega.{arith}
-use lib.ListN.{set}
-use lib.Seq.{get_or-set_other}
+use Rattle.std.proofs.Common.{◌≡◌, ℕ, ◌+◌, ◌<◌, ◌≤◌, false, cond, ◌≢◌, ◌↔◌, List, [], ◌∷◌, ◌++◌, map, set, sym, refl, ap, ◌∙◌, arith}
+use Rattle.std.proofs.Common.{get_or-set_other}
+use mathlib.Core.List.{map-append}
 use Rattle.model.specs.declared.Node.{Node}
 use Rattle.model.specs.Table.{Words, at, node_start, has_node, node, node_from, blank}
 use Rattle.model.specs.Slots.{used}
@@ -22,11 +17,13 @@ stored s = node_of s.word
 
 -- ---- stores that do not go to node n
 
-pub stored-cons : (s : Store) (ss : List Store) (n : ℕ) → (stores_to_node (s ∷ ss) n ≡ false) ↔ ((n ≢ node_of s.word) × (stores_to_node ss n ≡ false))
+pub stored-cons : (s : Store) (ss : List Store) (n : ℕ)
+    → (stores_to_node (s ∷ ss) n ≡ false) ↔ ((n ≢ node_of s.word) × (stores_to_node ss n ≡ false))
 unfolding stores_to_node
 stored-cons s ss n = elem-cons n (stored s) (map stored ss)
 
-pub stored-append : (ss us : List Store) (n : ℕ) → (stores_to_node (ss ++ us) n ≡ false) ↔ ((stores_to_node ss n ≡ false) × (stores_to_node us n ≡ false))
+pub stored-append : (ss us : List Store) (n : ℕ)
+    → (stores_to_node (ss ++ us) n ≡ false) ↔ ((stores_to_node ss n ≡ false) × (stores_to_node us n ≡ false))
 unfolding stores_to_node
 stored-append ss us n = rw (map-append stored ss us) (elem-append n (map stored ss) (map stored us))
 

@@ -1,12 +1,6 @@
 -- The words after a writing call: those of the nodes that its list stores to are those of the nodes that its stores go to.
-use mathlib.Core.Path.{◌≡◌, refl, sym, ap, ◌∙◌}
-use mathlib.Core.Bool.{Bool, true, false, ◌&&◌, ◌||◌}
-use mathlib.Core.List.{List, [], ◌∷◌, ◌++◌}
-use Prim.Native.Nat.{ℕ, zero, suc, ◌*◌, ◌≤◌}
-use native.Mathlib.Omega.{arith}
-use lib.Dec.{eqb, ltb}
-use lib.ListN.{length, drop, length-append, length-drop}
-use borrow.Author.Tests.{lt-ltb, le-ltb}
+use Rattle.std.proofs.Common.{◌≡◌, ℕ, zero, suc, ◌*◌, ◌≤◌, Bool, true, false, ◌&&◌, ◌||◌, eqb, ltb, List, [], ◌∷◌, ◌++◌, length, drop, sym}
+use Rattle.std.proofs.Common.{refl, ap, ◌∙◌, arith, length-append, length-drop, le-ltb, lt-ltb}
 use Rattle.std.specs.Prelude.{Err}
 use Rattle.model.specs.declared.Refusal.{Refusal}
 use Rattle.model.specs.Results.{Written, passed}
@@ -16,7 +10,8 @@ use Rattle.model.specs.SoundTest.{elem, sound}
 use Rattle.model.specs.Orders.{Store, Order, store, flush, barrier, BAR, encode, apply, orders, list_with}
 use Rattle.model.specs.Writes.{Call, stores_of}
 use Rattle.model.specs.Refusals.{seventeen_in, orders_of, refusal, written, orders_answered, table_after, list_after}
-use Rattle.model.specs.Sentinels.{node_of, stores_to_node, set_anew, slice_number, refusal_with, written_with, table_with, orders_with, sentinels_with, Leaves}
+use Rattle.model.specs.Sentinels.{node_of, stores_to_node, set_anew, slice_number, refusal_with, written_with, table_with, orders_with}
+use Rattle.model.specs.Sentinels.{sentinels_with, Leaves}
 use Rattle.cut_laws.specs.Inside.{StoresInside}
 use Rattle.cut_laws.specs.Unflushed.{stores_in}
 use Rattle.cut_laws.proofs.Applying.{counts-length, length-apply}
@@ -44,14 +39,16 @@ unfolding named
 named-front len a b ws zero n = refl
 named-front len a b ws (suc m) n =
     ap (λ (j : ℕ). hits len (at (a ∷ b ∷ ws) j) n || named len (a ∷ b ∷ ws) (suc m) n) (double-suc m)
-    ∙ ap (λ (z : Bool). hits len (at ws (2 * m)) n || z) (named-front len a b ws m n) ∙ or-swap (hits len (at ws (2 * m)) n) (hits len a n) (named len ws m n)
+    ∙ ap (λ (z : Bool). hits len (at ws (2 * m)) n || z) (named-front len a b ws m n)
+    ∙ or-swap (hits len (at ws (2 * m)) n) (hits len a n) (named len ws m n)
 
 -- a word that no table has
 missed : (len w n : ℕ) → len ≤ w → hits len w n ≡ false
 missed len w n h = rw (le-ltb w len h)
 
 -- the nodes that the orders of a list store to
-named-orders : (len : ℕ) (os : List Order) (rest : Words) (n : ℕ) → len ≤ BAR → StoresInside len (stores_in os) → named len (encode os ++ rest) (length os) n ≡ stores_to_node (stores_in os) n
+named-orders : (len : ℕ) (os : List Order) (rest : Words) (n : ℕ) → len ≤ BAR → StoresInside len (stores_in os)
+    → named len (encode os ++ rest) (length os) n ≡ stores_to_node (stores_in os) n
 unfolding encode stores_in stores_to_node elem named
 named-orders len [] rest n h i = refl
 named-orders len (store s ∷ os) rest n h i =
@@ -59,9 +56,12 @@ named-orders len (store s ∷ os) rest n h i =
     ∙ ap (λ (b : Bool). (b && eqb n (node_of s.word)) || named len (encode os ++ rest) (length os) n) (lt-ltb s.word len i.0)
     ∙ ap (λ (b : Bool). eqb n (node_of s.word) || b) (named-orders len os rest n h i.1)
 named-orders len (flush l ∷ os) rest n h i =
-    named-front len MARK l (encode os ++ rest) (length os) n ∙ ap (λ (b : Bool). b || named len (encode os ++ rest) (length os) n) (missed len MARK n (omega arith)) ∙ named-orders len os rest n h i
+    named-front len MARK l (encode os ++ rest) (length os) n
+    ∙ ap (λ (b : Bool). b || named len (encode os ++ rest) (length os) n) (missed len MARK n (omega arith))
+    ∙ named-orders len os rest n h i
 named-orders len (barrier ∷ os) rest n h i =
-    named-front len BAR 0 (encode os ++ rest) (length os) n ∙ ap (λ (b : Bool). b || named len (encode os ++ rest) (length os) n) (missed len BAR n h) ∙ named-orders len os rest n h i
+    named-front len BAR 0 (encode os ++ rest) (length os) n
+    ∙ ap (λ (b : Bool). b || named len (encode os ++ rest) (length os) n) (missed len BAR n h) ∙ named-orders len os rest n h i
 
 -- ---- a call
 
@@ -74,7 +74,8 @@ module _ (x : Call) (lent ws t : Words) (dock : ℕ) (fit : slice_number (sevent
   right = fits (seventeen_in x t) (length ws) t fit
 
   -- the table, the list and the answer of the plain call, and the slice as the words were set by them
-  module _ (t' lent' ws' : Words) (answer : Written) (e : answer ≡ written x (length lent) dock t) (f : t' ≡ table_after x (length lent) dock t) (g : lent' ≡ list_after x lent dock t) where
+  module _ (t' lent' ws' : Words) (answer : Written) (e : answer ≡ written x (length lent) dock t)
+      (f : t' ≡ table_after x (length lent) dock t) (g : lent' ≡ list_after x lent dock t) where
     -- accepted
     module _ (ok : refusal x (length lent) dock t ≡ 0) where
       count : orders_answered answer ≡ length (orders_of x dock t)
@@ -99,9 +100,12 @@ module _ (x : Call) (lent ws t : Words) (dock : ℕ) (fit : slice_number (sevent
           let os = orders_of x dock t in
           let a = (accepted-iff x (length lent) dock t).0 ok in
           let i = (accepted-steps x (length lent) dock t a.sound ok).stores-inside in
-          ap (λ (u : Words). named (length u) lent' (orders_answered answer) n) table ∙ ap (λ (m : ℕ). named m lent' (orders_answered answer) n) (length-apply (stores_of x t) t)
-          ∙ ap (λ (u : Words). named (length t) u (orders_answered answer) n) list ∙ ap (λ (m : ℕ). named (length t) (list_with os lent) m n) count
-          ∙ named-orders (length t) os (drop (2 * length os) lent) n (header-length t a.header).1 (rw (call-stores x dock t) i) ∙ ap (λ (ss : List Store). stores_to_node ss n) (call-stores x dock t)
+          ap (λ (u : Words). named (length u) lent' (orders_answered answer) n) table
+          ∙ ap (λ (m : ℕ). named m lent' (orders_answered answer) n) (length-apply (stores_of x t) t)
+          ∙ ap (λ (u : Words). named (length t) u (orders_answered answer) n) list
+          ∙ ap (λ (m : ℕ). named (length t) (list_with os lent) m n) count
+          ∙ named-orders (length t) os (drop (2 * length os) lent) n (header-length t a.header).1 (rw (call-stores x dock t) i)
+          ∙ ap (λ (ss : List Store). stores_to_node ss n) (call-stores x dock t)
 
       asks-accepted : Asks t' lent' ws answer
       asks-accepted =
@@ -113,9 +117,12 @@ module _ (x : Call) (lent ws t : Words) (dock : ℕ) (fit : slice_number (sevent
             room = omega (arith, count, long-list, list-fits x (length lent) dock t ok);
           }
 
-      gives-accepted : ws' ≡ set_anew (named (length t') lent' (orders_answered answer)) t' ws → ws' ≡ sentinels_with x ws (length lent) dock t
+      gives-accepted : ws' ≡ set_anew (named (length t') lent' (orders_answered answer)) t' ws → ws'
+          ≡ sentinels_with x ws (length lent) dock t
       unfolding sentinels_with refusal_with
-      gives-accepted h = rw (fit, ok) (h ∙ anew-same t' ws asks-accepted.slice _ _ (λ n a b. same-stores n) ∙ ap (λ (u : Words). set_anew (stores_to_node (stores_of x t)) u ws) table)
+      gives-accepted h = rw (fit, ok)
+          (h ∙ anew-same t' ws asks-accepted.slice _ _ (λ n a b. same-stores n)
+          ∙ ap (λ (u : Words). set_anew (stores_to_node (stores_of x t)) u ws) table)
 
     -- refused
     module _ (r : ℕ) (q : refusal x (length lent) dock t ≡ suc r) where
@@ -136,9 +143,12 @@ module _ (x : Call) (lent ws t : Words) (dock : ℕ) (fit : slice_number (sevent
             room = omega (arith, none-answered);
           }
 
-      gives-refused : ws' ≡ set_anew (named (length t') lent' (orders_answered answer)) t' ws → ws' ≡ sentinels_with x ws (length lent) dock t
+      gives-refused : ws' ≡ set_anew (named (length t') lent' (orders_answered answer)) t' ws → ws'
+          ≡ sentinels_with x ws (length lent) dock t
       unfolding sentinels_with refusal_with named
-      gives-refused h = rw (fit, q) (h ∙ ap (λ (m : ℕ). set_anew (named (length t') lent' m) t' ws) none-answered ∙ anew-none t' ws asks-refused.slice _ (λ n a b. refl))
+      gives-refused h = rw (fit, q)
+          (h ∙ ap (λ (m : ℕ). set_anew (named (length t') lent' m) t' ws) none-answered
+          ∙ anew-none t' ws asks-refused.slice _ (λ n a b. refl))
 
     -- what setting the words asks, and what the call then leaves
     pub keep-asks : Asks t' lent' ws answer
@@ -148,10 +158,16 @@ module _ (x : Call) (lent ws t : Words) (dock : ℕ) (fit : slice_number (sevent
         go zero ok = asks-accepted ok
         go (suc r) q = asks-refused r q
 
+    -- a slice whose words are set anew for the nodes named in the orders is what the call leaves
     pub keep-gives : ws' ≡ set_anew (named (length t') lent' (orders_answered answer)) t' ws → Leaves x dock t t' lent lent' ws ws' answer
     keep-gives h =
         let p = plain-call x (length ws) lent dock t right.long in
-        record { answered = e ∙ sym p.answer; table = f ∙ sym p.table; listed = g ∙ sym p.list; slice = go (refusal x (length lent) dock t) refl }
+        record {
+          answered = e ∙ sym p.answer;
+          table = f ∙ sym p.table;
+          listed = g ∙ sym p.list;
+          slice = go (refusal x (length lent) dock t) refl;
+        }
       where
         go : (r : ℕ) → refusal x (length lent) dock t ≡ r → ws' ≡ sentinels_with x ws (length lent) dock t
         go zero ok = gives-accepted ok h
@@ -159,7 +175,9 @@ module _ (x : Call) (lent ws t : Words) (dock : ℕ) (fit : slice_number (sevent
 
 -- ---- refused before the plain call
 
-pub keep-not : (x : Call) (lent ws t : Words) (dock : ℕ) (r : Refusal) → passed (slice_number (seventeen_in x t) (length ws) t) ≡ Err r → Leaves x dock t t lent lent ws ws (Err r)
+-- a call that is refused for its slice changes neither table, list nor slice
+pub keep-not : (x : Call) (lent ws t : Words) (dock : ℕ) (r : Refusal) → passed (slice_number (seventeen_in x t) (length ws) t) ≡ Err r
+    → Leaves x dock t t lent lent ws ws (Err r)
 unfolding written_with table_with orders_with sentinels_with refusal_with
 keep-not x lent ws t dock r = go (slice_number (seventeen_in x t) (length ws) t) refl
   where

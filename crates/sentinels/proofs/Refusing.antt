@@ -1,13 +1,6 @@
 -- The number of the first test that holds, by the tests in the order of the code.
-use mathlib.Core.Path.{◌≡◌, refl, ap, sym, ◌∙◌}
-use mathlib.Core.Bool.{Bool, true, false, cond, not}
-use mathlib.Core.List.{[], ◌∷◌}
-use mathlib.Core.Logic.{◌≢◌}
-use Prim.Native.Nat.{ℕ, zero, suc, ◌*◌, ◌≤◌}
-use native.Mathlib.Omega.{arith}
-use lib.Dec.{eqb}
-use lib.ListN.{length}
-use borrow.Author.Tests.{eqb-true, ne_eqb}
+use Rattle.std.proofs.Common.{◌≡◌, ℕ, zero, suc, ◌*◌, ◌≤◌, Bool, true, false, cond, not, eqb, ◌≢◌, [], ◌∷◌, length, sym, refl, ap, ◌∙◌}
+use Rattle.std.proofs.Common.{arith, ne_eqb, eqb-true}
 use Rattle.std.specs.Prelude.{Ok, Err}
 use Rattle.model.specs.declared.Refusal.{Refusal}
 use Rattle.model.specs.declared.Refusal.TheVariants.{OtherSentinels}
@@ -41,13 +34,6 @@ length-is m t e = go (eqb m (3 * nodes t)) refl e
     go true f z = eqb-true m (3 * nodes t) f
     go false f z = absurd (omega (arith, z))
 
-pub length-nineteen : (m : ℕ) (t : Words) → length_number m t ≢ 0 → length_number m t ≡ 19
-length-nineteen m t = go (eqb m (3 * nodes t))
-  where
-    go : (b : Bool) → cond {A = ℕ} b 0 19 ≢ 0 → cond {A = ℕ} b 0 19 ≡ 19
-    go true z = absurd (z refl)
-    go false z = refl
-
 -- it is what is left to test
 pub rest-number : (lacks : Bool) (m : ℕ) (t : Words) → header_ok t ≡ true → lacks ≡ false → slice_number lacks m t ≡ length_number m t
 unfolding slice_number
@@ -63,7 +49,8 @@ pub collection-number : (n m : ℕ) (t : Words) → number_in n t ≢ 0 → slic
 unfolding number_in
 collection-number n m t z = go (header_ok t) (no_collection n t) refl refl
   where
-    go : (a b : Bool) → header_ok t ≡ a → no_collection n t ≡ b → slice_number (no_collection n t) m t ≡ cond (header_ok t) (cond (no_collection n t) 17 0) 2
+    go : (a b : Bool) → header_ok t ≡ a → no_collection n t ≡ b → slice_number (no_collection n t) m t
+        ≡ cond (header_ok t) (cond (no_collection n t) 17 0) 2
     go true false h c = absurd (z (rw (h, c)))
     go true true h c = slice-lacks (no_collection n t) m t h c ∙ sym (rw (h, c))
     go false b h c = slice-bad (no_collection n t) m t h ∙ sym (rw h)
@@ -80,7 +67,8 @@ passed-on (suc n) z e q = sym e ∙ sym (ap passed q)
 -- ---- working them out: the answer, and the slice
 
 module _ (ws t : Words) where
-  pub work-refused : (x : ℕ) → x ≡ slice_number false (length ws) t → x ≢ 0 → (refused_with x ≡ work_out (length ws) t) × (ws ≡ worked_out ws t)
+  pub work-refused : (x : ℕ) → x ≡ slice_number false (length ws) t → x ≢ 0 → (refused_with x ≡ work_out (length ws) t)
+      × (ws ≡ worked_out ws t)
   unfolding work_out worked_out work_number
   work-refused zero e z = absurd (z refl)
   work-refused (suc x) e z = rw (← e) (refl, refl)

@@ -1,11 +1,6 @@
 -- The words of one node, by the reads of the code.
-use mathlib.Core.Path.{◌≡◌, sym, ap, ◌∙◌}
-use mathlib.Core.Bool.{Bool, true, false, ◌&&◌, and-false, and-true}
-use mathlib.Core.Logic.{◌≢◌}
-use mathlib.Core.List.{[], ◌∷◌}
-use Prim.Native.Nat.{ℕ}
-use lib.Dec.{eqb}
-use borrow.Author.Tests.{eq-eqb, ne_eqb}
+use Rattle.std.proofs.Common.{◌≡◌, ℕ, Bool, true, false, ◌&&◌, eqb, ◌≢◌, [], ◌∷◌, sym, ap, ◌∙◌, eq-eqb, ne_eqb}
+use mathlib.Core.Bool.{and-false, and-true}
 use Rattle.model.specs.Table.{Words, nodes, node, has_node}
 use Rattle.model.specs.Reached.{reached_all}
 use Rattle.model.specs.SoundTest.{elem, sound}
@@ -31,10 +26,13 @@ module _ (t : Words) (n l : ℕ) (s : sound t ≡ true) (e : l ≡ word_of t n 2
   level-is = ap (λ (x : ℕ). eqb x 0) (e ∙ word-level t n)
 
   pub not-leaf : l ≢ 0 → false ≡ elem n (leaves_all t)
-  not-leaf z = sym (leaves-level t n s ∙ ap (λ (b : Bool). elem n (reached_all t) && b) (sym level-is ∙ ne_eqb l 0 z) ∙ and-false (elem n (reached_all t)))
+  not-leaf z = sym (leaves-level t n s ∙ ap (λ (b : Bool). elem n (reached_all t) && b) (sym level-is ∙ ne_eqb l 0 z)
+      ∙ and-false (elem n (reached_all t)))
 
   pub leaf-taken : (r : Bool) → l ≡ 0 → r ≡ elem n (reached_all t) → r ≡ elem n (leaves_all t)
-  leaf-taken r z q = q ∙ sym (leaves-level t n s ∙ ap (λ (b : Bool). elem n (reached_all t) && b) (sym level-is ∙ eq-eqb l 0 z) ∙ and-true (elem n (reached_all t)))
+  leaf-taken r z q = q
+      ∙ sym (leaves-level t n s ∙ ap (λ (b : Bool). elem n (reached_all t) && b) (sym level-is ∙ eq-eqb l 0 z)
+      ∙ and-true (elem n (reached_all t)))
 
 -- ---- its words
 
@@ -46,9 +44,12 @@ module _ (t : Words) (n : ℕ) (s : sound t ≡ true) (r : Bool) (q : r ≡ elem
   pub leaf-there : has_node t n ≡ true
   leaf-there =
       let l = (and-iff _ _).0 (sym (leaves-level t n s) ∙ sym q ∙ z) in
-      has-node-range t n (sound-head t s) ∙ (range-iff (nodes t) n).1 (each-mem (UpTo (nodes t)) (reached-up t s) ((elem-iff n (reached_all t)).0 l.0))
+      has-node-range t n (sound-head t s)
+      ∙ (range-iff (nodes t) n).1 (each-mem (UpTo (nodes t)) (reached-up t s) ((elem-iff n (reached_all t)).0 l.0))
 
-  pub leaf-words : (vs : Words) (a b c : ℕ) → vs ≡ words_at t n → a ≡ first_key (line_of vs 0) → b ≡ first_key (line_of vs 4) → c ≡ first_key (line_of vs 8) → a ∷ b ∷ c ∷ [] ≡ sentinels_of t n
+  pub leaf-words : (vs : Words) (a b c : ℕ) → vs ≡ words_at t n → a ≡ first_key (line_of vs 0) → b ≡ first_key (line_of vs 4) → c
+      ≡ first_key (line_of vs 8) → a ∷ b ∷ c ∷ [] ≡ sentinels_of t n
   unfolding sentinels_of
   leaf-words vs a b c e x y u =
-      rw (sym q ∙ z) (λ i. (x ∙ ap first_key (line-is t n leaf-there 0 vs e)) i ∷ (y ∙ ap first_key (line-is t n leaf-there 1 vs e)) i ∷ (u ∙ ap first_key (line-is t n leaf-there 2 vs e)) i ∷ [])
+      rw (sym q ∙ z) (λ i. (x ∙ ap first_key (line-is t n leaf-there 0 vs e)) i ∷ (y ∙ ap first_key (line-is t n leaf-there 1 vs e)) i
+      ∷ (u ∙ ap first_key (line-is t n leaf-there 2 vs e)) i ∷ [])

@@ -1,17 +1,13 @@
 -- A number taken out of the cells: its cell becomes a gap, the gap moves on until a free cell comes, and is free then.
-use mathlib.Core.Path.{◌≡◌, refl, ap, sym, ◌∙◌}
-use mathlib.Core.Bool.{Bool, true, false, cond, not, ◌&&◌}
-use mathlib.Core.Logic.{◌≢◌, ◌⊎◌, inl, inr, ⊎_elim}
-use Prim.Native.Nat.{ℕ, zero, suc, ◌+◌, ◌≤◌, ◌<◌}
-use native.Mathlib.Omega.{arith}
-use lib.Dec.{eqb, leb}
-use lib.ListN.{length, set, length-set}
-use borrow.Author.Tests.{eqb-false, eq-eqb, ne_eqb, leb-true, leb-false}
+use Rattle.std.proofs.Common.{◌≡◌, ℕ, zero, suc, ◌+◌, ◌<◌, ◌≤◌, Bool, true, false, cond, not, ◌&&◌, eqb, leb, ◌≢◌, ◌⊎◌, length, set, sym}
+use Rattle.std.proofs.Common.{refl, ap, ◌∙◌, inl, inr, ⊎_elim, arith, length-set, eq-eqb, ne_eqb, leb-false, leb-true}
+use borrow.Author.Tests.{eqb-false}
 use Rattle.model.specs.Table.{Words, at}
 use Rattle.model.specs.Cells.{next_cell, home_of, cell_for, holds, ahead, closed_up, without}
 use Rattle.list_laws.proofs.Tools.{same-or-not, compared, and-iff, not-iff}
 use Rattle.set_laws.specs.Sets.{SetOf}
-use Rattle.set_laws.proofs.Round.{next-in, ahead-in, ahead-same, ahead-zero, ahead-only, ahead-nearer, ahead-farther, ahead-through, ahead-add, ahead-next}
+use Rattle.set_laws.proofs.Round.{next-in, ahead-in, ahead-same, ahead-zero, ahead-only, ahead-nearer, ahead-farther, ahead-through}
+use Rattle.set_laws.proofs.Round.{ahead-add, ahead-next}
 use Rattle.set_laws.proofs.Holding.{some-inside, home-in, holds-here, at-set, at-else, Found, Gapped, real, set-gapped, gapped-set}
 
 -- ---- the gap opens
@@ -32,7 +28,8 @@ module _ (m : ℕ) (cs : Words) (mem : ℕ → Bool) (q : Gapped m cs m mem) (x 
   pub gap-opens : Gapped m cs p (λ (y : ℕ). not (eqb y x) && mem y)
   gap-opens = record {
     long = q.long;
-    known = λ i z y. other-less (at cs i) (λ e. z (q.once i p (not-end i y) (λ n. omega (arith, n)) y (e ∙ sym here))) (q.known i (not-end i y) y);
+    known = λ i z y. other-less (at cs i) (λ e. z (q.once i p (not-end i y) (λ n. omega (arith, n)) y (e ∙ sym here)))
+        (q.known i (not-end i y) y);
     found = λ y e. finds y (less-other y e);
     once = λ i j a b z e. q.once i j (not-end i z) (not-end j (λ n. z (e ∙ n))) z e;
   }
@@ -50,7 +47,8 @@ module _ (m : ℕ) (cs : Words) (mem : ℕ → Bool) (q : Gapped m cs m mem) (x 
 
 -- ---- the gap moves, or is closed
 
-module _ (m : ℕ) (cs : Words) (mem : ℕ → Bool) (zeroless : mem 0 ≡ false) (i j : ℕ) (q : Gapped m cs i mem) (i-in : i < m) (j-in : j < m) (apart : j ≢ i) where
+module _ (m : ℕ) (cs : Words) (mem : ℕ → Bool) (zeroless : mem 0 ≡ false) (i j : ℕ) (q : Gapped m cs i mem) (i-in : i < m)
+    (j-in : j < m) (apart : j ≢ i) where
   -- the number of cell j, whose path leads over the gap, moves into it
   module _ (taken : at cs j ≢ 0) (over : ahead m i j ≤ ahead m (home_of m (at cs j)) j) where
     pub gap-moves : Gapped m (set cs i (at cs j)) j mem
@@ -69,7 +67,8 @@ module _ (m : ℕ) (cs : Words) (mem : ℕ → Bool) (zeroless : mem 0 ≡ false
         else c z = at-else cs i c (at cs j) z
 
         known : (c : ℕ) → c ≢ j → at after c ≢ 0 → mem (at after c) ≡ true
-        known c z y = ⊎_elim (λ e. ap mem (ap (at after) e ∙ here) ∙ q.known j apart taken) (λ e. ap mem (else c e) ∙ q.known c e (λ n. y (else c e ∙ n))) (same-or-not c i)
+        known c z y = ⊎_elim (λ e. ap mem (ap (at after) e ∙ here) ∙ q.known j apart taken)
+            (λ e. ap mem (else c e) ∙ q.known c e (λ n. y (else c e ∙ n))) (same-or-not c i)
 
         -- a taken cell, or the old gap, is taken now
         passed : (c : ℕ) → (c ≡ i) ⊎ (at cs c ≢ 0) → at after c ≢ 0
@@ -185,7 +184,8 @@ module _ (m : ℕ) (cs : Words) (mem : ℕ → Bool) (zeroless : mem 0 ≡ false
               inside = f.inside;
               off = λ o. omega (arith, f.inside, o);
               here = else f.place f.off ∙ f.here;
-              path = λ c l k. inr (⊎_elim (λ o. absurd (clear-of y e (rw o at k))) (λ z n. z (sym (else c (λ o. clear-of y e (rw o at k))) ∙ n)) (f.path c l k));
+              path = λ c l k. inr (⊎_elim (λ o. absurd (clear-of y e (rw o at k)))
+                  (λ z n. z (sym (else c (λ o. clear-of y e (rw o at k))) ∙ n)) (f.path c l k));
             }
 
         once : (c d : ℕ) → c ≢ m → d ≢ m → at after c ≢ 0 → at after c ≡ at after d → c ≡ d
@@ -201,18 +201,21 @@ closed-free : (cs : Words) (i j f : ℕ) → at cs j ≡ 0 → closed_up cs i j 
 unfolding closed_up
 closed-free cs i j f e = rw (eq-eqb (at cs j) 0 e, closed_up)
 
-closed-moves : (m : ℕ) (cs : Words) (i j f : ℕ) → length cs ≡ m → at cs j ≢ 0 → leb (ahead m i j) (ahead m (home_of m (at cs j)) j) ≡ true → closed_up cs i j (suc f) ≡ closed_up (set cs i (at cs j)) j (next_cell m j) f
+closed-moves : (m : ℕ) (cs : Words) (i j f : ℕ) → length cs ≡ m → at cs j ≢ 0 → leb (ahead m i j) (ahead m (home_of m (at cs j)) j) ≡ true
+    → closed_up cs i j (suc f) ≡ closed_up (set cs i (at cs j)) j (next_cell m j) f
 unfolding closed_up
 closed-moves m cs i j f l z e = rw (ne_eqb (at cs j) 0 z, l, e, closed_up, l)
 
-closed-passes : (m : ℕ) (cs : Words) (i j f : ℕ) → length cs ≡ m → at cs j ≢ 0 → leb (ahead m i j) (ahead m (home_of m (at cs j)) j) ≡ false → closed_up cs i j (suc f) ≡ closed_up cs i (next_cell m j) f
+closed-passes : (m : ℕ) (cs : Words) (i j f : ℕ) → length cs ≡ m → at cs j ≢ 0 → leb (ahead m i j) (ahead m (home_of m (at cs j)) j) ≡ false
+    → closed_up cs i j (suc f) ≡ closed_up cs i (next_cell m j) f
 unfolding closed_up
 closed-passes m cs i j f l z e = rw (ne_eqb (at cs j) 0 z, l, e, closed_up, l)
 
 module _ (m : ℕ) (mem : ℕ → Bool) (zeroless : mem 0 ≡ false) (e : ℕ) (e-in : e < m) where
   -- in f steps from cell j on, where e is a free cell and the gap i comes before j, which comes no later than e
   abbrev Closes : ℕ → Type 0
-  Closes f = (cs : Words) (i j : ℕ) → Gapped m cs i mem → i < m → j < m → at cs e ≡ 0 → e ≢ i → 1 ≤ ahead m i j → ahead m i j ≤ ahead m i e → ahead m j e < f
+  Closes f = (cs : Words) (i j : ℕ) → Gapped m cs i mem → i < m → j < m → at cs e ≡ 0 → e ≢ i → 1 ≤ ahead m i j
+      → ahead m i j ≤ ahead m i e → ahead m j e < f
       → ((c : ℕ) → c < m → 0 < ahead m i c → ahead m i c < ahead m i j → (at cs c ≢ 0) × (ahead m (home_of m (at cs c)) c < ahead m i c))
       → Gapped m (closed_up cs i j f) m mem
 
@@ -247,22 +250,28 @@ module _ (m : ℕ) (mem : ℕ → Bool) (zeroless : mem 0 ≡ false) (e : ℕ) (
           go true t =
               let one' : ahead m j (next_cell m j) ≡ 1 = ahead-next m j e j-in e-in other in
               rw (closed-moves m cs i j f q.long z t) (ih (set cs i (at cs j)) j (next_cell m j)
-              (gap-moves m cs mem zeroless i j q i-in j-in apart z (leb-true _ _ t)) j-in n-in (at-else cs i e (at cs j) off ∙ free) (λ n. other (sym n))
+              (gap-moves m cs mem zeroless i j q i-in j-in apart z (leb-true _ _ t)) j-in n-in
+              (at-else cs i e (at cs j) off ∙ free) (λ n. other (sym n))
               (omega (arith, one')) (omega (arith, one', nearer)) (omega (arith, less, nearer))
               (λ c l a b. absurd (omega (arith, a, b, one'))))
           go false t =
               let round : next_cell m j ≢ i = λ n. omega (arith, nearer, sum, ap (λ (k : ℕ). ahead m k e) n) in
               let step = ahead-farther m i j i-in j-in round in
               let not-over = leb-false _ _ t in
-              rw (closed-passes m cs i j f q.long z t) (ih cs i (next_cell m j) q i-in n-in free off (omega (arith, step)) (omega (arith, step, sum, nearer)) (omega (arith, less, nearer))
-              (λ c l a b. ⊎_elim (λ n. rw n (z, not-over)) (λ n. seen c l a (below (ahead m i c) (ahead m i j) (omega (arith, b, step)) (λ k. n (ahead-only m i c j i-in l j-in k)))) (same-or-not c j)))
+              rw (closed-passes m cs i j f q.long z t)
+              (ih cs i (next_cell m j) q i-in n-in free off (omega (arith, step)) (omega (arith, step, sum, nearer))
+              (omega (arith, less, nearer))
+              (λ c l a b. ⊎_elim (λ n. rw n (z, not-over))
+              (λ n. seen c l a (below (ahead m i c) (ahead m i j) (omega (arith, b, step)) (λ k. n (ahead-only m i c j i-in l j-in k))))
+              (same-or-not c j)))
 
   pub closing : (f : ℕ) → Closes f
   closing zero cs i j q i-in j-in free off one upto less seen = absurd (omega arith)
   closing (suc f) cs i j q i-in j-in free off one upto less seen = one-more f (closing f) cs i j q i-in j-in free off one upto less seen
 
 -- Without x the cells hold all others.
-module _ (m : ℕ) (cs : Words) (mem : ℕ → Bool) (zeroless : mem 0 ≡ false) (long : length cs ≡ m) (s : SetOf cs mem) (e : ℕ) (e-in : e < m) (free : at cs e ≡ 0) (x : ℕ) (member : mem x ≡ true) where
+module _ (m : ℕ) (cs : Words) (mem : ℕ → Bool) (zeroless : mem 0 ≡ false) (long : length cs ≡ m) (s : SetOf cs mem) (e : ℕ) (e-in : e < m)
+    (free : at cs e ≡ 0) (x : ℕ) (member : mem x ≡ true) where
   some : 0 < m
   some = omega arith
 
@@ -288,6 +297,7 @@ module _ (m : ℕ) (cs : Words) (mem : ℕ → Bool) (zeroless : mem 0 ≡ false
       no true = refl
       no false = refl
 
+  -- cells that hold a set, one of them free, hold the set without its member x once x is taken out
   pub without-set : SetOf (without cs x) (λ (y : ℕ). not (eqb y x) && mem y)
   unfolding without
   without-set =
@@ -296,8 +306,10 @@ module _ (m : ℕ) (cs : Words) (mem : ℕ → Bool) (zeroless : mem 0 ≡ false
       let one : ahead m p n ≡ 1 = ahead-next m p e p-in e-in (λ z. off (sym z)) in
       let nearer = ahead-nearer m p e p-in e-in (λ z. off (sym z)) in
       rw (held, long) (gapped-set m _ (λ (y : ℕ). not (eqb y x) && mem y) some zeroless'
-      (closing m (λ (y : ℕ). not (eqb y x) && mem y) zeroless' e e-in m cs p n (gap-opens m cs mem (set-gapped m cs mem some zeroless long s) x p real-x p-in here)
-      p-in (next-in m p p-in) free off (omega (arith, one)) (omega (arith, one, nearer)) (omega (arith, nearer, ahead-in m n e (next-in m p p-in) e-in))
+      (closing m (λ (y : ℕ). not (eqb y x) && mem y) zeroless' e e-in m cs p n
+      (gap-opens m cs mem (set-gapped m cs mem some zeroless long s) x p real-x p-in here)
+      p-in (next-in m p p-in) free off (omega (arith, one)) (omega (arith, one, nearer))
+      (omega (arith, nearer, ahead-in m n e (next-in m p p-in) e-in))
       (λ c l a b. absurd (omega (arith, a, b, one)))))
 
 -- ---- the cells are as many as before
@@ -305,14 +317,17 @@ module _ (m : ℕ) (cs : Words) (mem : ℕ → Bool) (zeroless : mem 0 ≡ false
 pub closed-length : (f : ℕ) (cs : Words) (i j : ℕ) → length (closed_up cs i j f) ≡ length cs
 unfolding closed_up
 closed-length zero cs i j = length-set cs i 0
-closed-length (suc f) cs i j = go (same-or-not (at cs j) 0) (leb (ahead (length cs) i j) (ahead (length cs) (home_of (length cs) (at cs j)) j)) refl (closed-length f)
+closed-length (suc f) cs i j =
+    go (same-or-not (at cs j) 0) (leb (ahead (length cs) i j) (ahead (length cs) (home_of (length cs) (at cs j)) j)) refl (closed-length f)
   where
     go : (at cs j ≡ 0) ⊎ (at cs j ≢ 0) → (b : Bool) → leb (ahead (length cs) i j) (ahead (length cs) (home_of (length cs) (at cs j)) j) ≡ b
         → ((cs : Words) (i j : ℕ) → length (closed_up cs i j f) ≡ length cs) → length (closed_up cs i j (suc f)) ≡ length cs
     go (inl z) b e ih = rw (closed-free cs i j f z) (length-set cs i 0)
-    go (inr z) true e ih = rw (closed-moves (length cs) cs i j f refl z e) (ih (set cs i (at cs j)) j (next_cell (length cs) j) ∙ length-set cs i (at cs j))
+    go (inr z) true e ih =
+        rw (closed-moves (length cs) cs i j f refl z e) (ih (set cs i (at cs j)) j (next_cell (length cs) j) ∙ length-set cs i (at cs j))
     go (inr z) false e ih = rw (closed-passes (length cs) cs i j f refl z e) (ih cs i (next_cell (length cs) j))
 
+-- taking out a number keeps the number of cells
 pub without-length : (cs : Words) (x : ℕ) → length (without cs x) ≡ length cs
 unfolding without
 without-length cs x = go (holds cs x)

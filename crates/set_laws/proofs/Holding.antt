@@ -1,16 +1,10 @@
--- Which numbers cells hold: after one is entered, and after one is taken out and the gap closed. A gap is a cell that counts for no number and
+-- Which numbers cells hold: after one is entered, and after one is taken out and the gap closed. A gap is a cell that counts for no number
+-- and
 -- is passed like one that is taken.
-use mathlib.Core.Path.{◌≡◌, refl, ap, sym, ◌∙◌}
-use mathlib.Core.Bool.{Bool, true, false, ◌||◌, false≢true}
-use mathlib.Core.Logic.{◌≢◌, ◌⊎◌, inl, inr, ⊎_elim}
-use mathlib.Core.List.{[], ◌∷◌}
-use Prim.Native.Nat.{ℕ, zero, suc, ◌≤◌, ◌<◌}
-use native.Mathlib.Omega.{arith}
-use native.Mathlib.Nat.{mod-lt}
-use lib.Dec.{eqb, leb}
-use lib.ListN.{length, set, length-set}
-use lib.Seq.{get_or-set_same, get_or-set_other}
-use borrow.Author.Tests.{eqb-true, eq-eqb, ne_eqb, leb-true, leb-false}
+use Rattle.std.proofs.Common.{◌≡◌, ℕ, zero, suc, ◌<◌, ◌≤◌, Bool, true, false, ◌||◌, eqb, leb, ◌≢◌, ◌⊎◌, [], ◌∷◌, length, set, sym, refl, ap}
+use Rattle.std.proofs.Common.{◌∙◌, inl, inr, ⊎_elim, mod-lt, arith, length-set, get_or-set_other, get_or-set_same, eq-eqb, ne_eqb, eqb-true}
+use Rattle.std.proofs.Common.{leb-false, leb-true}
+use mathlib.Core.Bool.{false≢true}
 use Rattle.model.specs.Table.{Words, at}
 use Rattle.model.specs.Cells.{next_cell, home_of, seek, cell_for, holds, entered, ahead}
 use Rattle.list_laws.proofs.Tools.{same-or-not, refuted, or-right}
@@ -69,18 +63,21 @@ module _ (m : ℕ) (cs : Words) (long : length cs ≡ m) (x : ℕ) where
   seek-goes i f p = rw (ne_eqb (at cs i) x p.0, ne_eqb (at cs i) 0 p.1, long, seek)
 
   stop-or-pass : (i : ℕ) → Stop i ⊎ Passed i
-  stop-or-pass i = ⊎_elim (λ e. inl (inl e)) (λ z. ⊎_elim (λ e. inl (inr e)) (λ y. inr (z, y)) (same-or-not (at cs i) 0)) (same-or-not (at cs i) x)
+  stop-or-pass i = ⊎_elim (λ e. inl (inl e)) (λ z. ⊎_elim (λ e. inl (inr e)) (λ y. inr (z, y)) (same-or-not (at cs i) 0))
+      (same-or-not (at cs i) x)
 
   -- it ends at the first cell where it stops
   pub seek-ends : (f i p : ℕ) → i < m → p < m → Stop p → Before i p → ahead m i p < f → seek cs x i f ≡ p
   seek-ends zero i p a b s g h = absurd (omega arith)
-  seek-ends (suc f) i p a b s g h = ⊎_elim (λ e. seek-stops i f (rw e s) ∙ e) (λ z. go z (seek-ends f (next_cell m i) p (next-in m i a) b s)) (same-or-not i p)
+  seek-ends (suc f) i p a b s g h =
+      ⊎_elim (λ e. seek-stops i f (rw e s) ∙ e) (λ z. go z (seek-ends f (next_cell m i) p (next-in m i a) b s)) (same-or-not i p)
     where
       go : i ≢ p → (Before (next_cell m i) p → ahead m (next_cell m i) p < f → seek cs x (next_cell m i) f ≡ p) → seek cs x i (suc f) ≡ p
       go z ih =
           let n = ahead-nearer m i p a b z in
           let here : Passed i = g i a (omega (arith, ahead-same m i a)) in
-          let later : Before (next_cell m i) p = λ c l q. ⊎_elim (λ e. rw e here) (λ y. g c l (omega (arith, ahead-nearer m i c a l (λ e. y (sym e))))) (same-or-not c i) in
+          let later : Before (next_cell m i) p =
+          λ c l q. ⊎_elim (λ e. rw e here) (λ y. g c l (omega (arith, ahead-nearer m i c a l (λ e. y (sym e))))) (same-or-not c i) in
           seek-goes i f here ∙ ih later (omega arith)
 
   -- where it ends: at such a cell, or nowhere
@@ -90,16 +87,28 @@ module _ (m : ℕ) (cs : Words) (long : length cs ≡ m) (x : ℕ) where
   pub seek-ended : (f i : ℕ) → i < m → Ended f i (seek cs x i f)
   unfolding seek
   seek-ended zero i a = inl (long, λ c l h. absurd (omega arith))
-  seek-ended (suc f) i a = ⊎_elim stop (λ p. go p (seek cs x (next_cell m i) f) (seek-goes i f p) (seek-ended f (next_cell m i) (next-in m i a))) (stop-or-pass i)
+  seek-ended (suc f) i a =
+      ⊎_elim stop (λ p. go p (seek cs x (next_cell m i) f) (seek-goes i f p) (seek-ended f (next_cell m i) (next-in m i a)))
+      (stop-or-pass i)
     where
       stop : Stop i → Ended (suc f) i (seek cs x i (suc f))
       stop s = rw (seek-stops i f s) (inr (a, s, λ c l h. absurd (omega (arith, ahead-same m i a))))
 
       go : Passed i → (p : ℕ) → seek cs x i (suc f) ≡ p → Ended f (next_cell m i) p → Ended (suc f) i (seek cs x i (suc f))
-      go here p e (inl t) = rw e (inl (t.0, λ c l h. ⊎_elim (λ q. rw q here) (λ y. t.1 c l (omega (arith, ahead-nearer m i c a l (λ q. y (sym q))))) (same-or-not c i)))
+      go here p e (inl t) =
+          rw e (inl (
+            t.0,
+            λ c l h. ⊎_elim (λ q. rw q here)
+                (λ y. t.1 c l (omega (arith, ahead-nearer m i c a l (λ q. y (sym q))))) (same-or-not c i),
+          ))
       go here p e (inr t) =
           let off : i ≢ p = λ q. ⊎_elim (λ s. here.0 (ap (at cs) q ∙ s)) (λ s. here.1 (ap (at cs) q ∙ s)) t.1 in
-          rw e (inr (t.0, t.1, λ c l h. ⊎_elim (λ q. rw q here) (λ y. t.2 c l (omega (arith, ahead-nearer m i c a l (λ q. y (sym q)), ahead-nearer m i p a t.0 off))) (same-or-not c i)))
+          rw e (inr (
+            t.0,
+            t.1,
+            λ c l h. ⊎_elim (λ q. rw q here)
+                (λ y. t.2 c l (omega (arith, ahead-nearer m i c a l (λ q. y (sym q)), ahead-nearer m i p a t.0 off))) (same-or-not c i),
+          ))
 
 -- ---- cells with a gap at g
 
@@ -141,7 +150,11 @@ module _ (m : ℕ) (cs : Words) (mem : ℕ → Bool) (some : 0 < m) (zeroless : 
           go (inr t) = record { place = p; inside = t.0; off = λ q. omega (arith, t.0); here = here; path = λ c l h. inr (t.2 c l h).1 }
 
   pub gapped-set : Gapped m cs m mem → SetOf cs mem
-  gapped-set q = record { known = λ i z. q.known i (λ e. out i z e) z; found = finds; once = λ i j z e. q.once i j (out i z) (λ y. out j (λ n. z (e ∙ n)) y) z e }
+  gapped-set q = record {
+    known = λ i z. q.known i (λ e. out i z e) z;
+    found = finds;
+    once = λ i j z e. q.once i j (out i z) (λ y. out j (λ n. z (e ∙ n)) y) z e;
+  }
     where
       out : (i : ℕ) → at cs i ≢ 0 → i ≢ m
       out i z e = omega (arith, some-inside cs i z, q.long)
@@ -151,10 +164,12 @@ module _ (m : ℕ) (cs : Words) (mem : ℕ → Bool) (some : 0 < m) (zeroless : 
           let u = q.found x e in
           let h = home_of m x in
           let before : Before m cs q.long x h u.place = λ c l y. (
-            λ n. no (ap (ahead m h) (q.once c u.place (λ z. omega (arith, z)) u.off (λ z. real mem zeroless x e (sym n ∙ z)) (n ∙ sym u.here))) y,
+            λ n. no (ap (ahead m h)
+                (q.once c u.place (λ z. omega (arith, z)) u.off (λ z. real mem zeroless x e (sym n ∙ z)) (n ∙ sym u.here))) y,
             ⊎_elim (λ z. absurd (omega (arith, z))) (λ z. z) (u.path c l y),
           ) in
-          let k = seek-ends m cs q.long x m h u.place (home-in m x some) u.inside (inl u.here) before (ahead-in m h u.place (home-in m x some) u.inside) in
+          let k = seek-ends m cs q.long x m h u.place (home-in m x some) u.inside (inl u.here) before
+          (ahead-in m h u.place (home-in m x some) u.inside) in
           here-holds cs x u.place (cell-for m cs x q.long ∙ k) u.here
         where
           no : {a b : ℕ} → a ≡ b → a < b → ⊥
@@ -166,7 +181,8 @@ module _ (m : ℕ) (cs : Words) (mem : ℕ → Bool) (some : 0 < m) (zeroless : 
     where
       go : (b : Bool) → mem x ≡ b → holds cs x ≡ mem x
       go true e = s.found x e ∙ sym e
-      go false e = refuted (holds cs x) (λ h. let q = holds-here cs x h in false≢true (sym e ∙ ap mem (sym q) ∙ s.known (cell_for cs x) (λ y. z (sym q ∙ y)))) ∙ sym e
+      go false e = refuted (holds cs x)
+          (λ h. let q = holds-here cs x h in false≢true (sym e ∙ ap mem (sym q) ∙ s.known (cell_for cs x) (λ y. z (sym q ∙ y)))) ∙ sym e
 
 -- ---- a number entered
 
@@ -176,7 +192,8 @@ at-set cs i x h = get_or-set_same cs i x 0 h
 pub at-else : (cs : Words) (i j x : ℕ) → j ≢ i → at (set cs i x) j ≡ at cs j
 at-else cs i j x z = get_or-set_other cs i j x 0 z
 
-module _ (m : ℕ) (cs : Words) (mem : ℕ → Bool) (some : 0 < m) (zeroless : mem 0 ≡ false) (long : length cs ≡ m) (s : SetOf cs mem) (x : ℕ) (real-x : x ≢ 0) (new : mem x ≡ false) (e : ℕ) (e-in : e < m) (free : at cs e ≡ 0) where
+module _ (m : ℕ) (cs : Words) (mem : ℕ → Bool) (some : 0 < m) (zeroless : mem 0 ≡ false) (long : length cs ≡ m) (s : SetOf cs mem) (x : ℕ)
+    (real-x : x ≢ 0) (new : mem x ≡ false) (e : ℕ) (e-in : e < m) (free : at cs e ≡ 0) where
   abbrev p : ℕ
   p = cell_for cs x
 
@@ -197,7 +214,11 @@ module _ (m : ℕ) (cs : Words) (mem : ℕ → Bool) (some : 0 < m) (zeroless : 
     where
       go : (q : ℕ) → p ≡ q → Ended m cs long x m (home_of m x) q → Place
       go q y (inl t) = absurd ((t.1 e e-in (ahead-in m (home_of m x) e (home-in m x some) e-in)).1 free)
-      go q y (inr t) = record { inside = rw y t.0; was-free = ap (at cs) y ∙ ⊎_elim (λ z. absurd (not-x q z)) (λ z. z) t.1; path = λ c l h. (t.2 c l (rw y at h)).1 }
+      go q y (inr t) = record {
+        inside = rw y t.0;
+        was-free = ap (at cs) y ∙ ⊎_elim (λ z. absurd (not-x q z)) (λ z. z) t.1;
+        path = λ c l h. (t.2 c l (rw y at h)).1;
+      }
 
   pub entered-set : SetOf (entered cs x) (λ (y : ℕ). eqb y x || mem y)
   unfolding entered

@@ -1,13 +1,7 @@
 -- Cells that are more than the numbers in them: one is free. Numbers entered one after the other into free cells.
-use mathlib.Core.Path.{◌≡◌, refl, ap, sym, ◌∙◌}
-use mathlib.Core.Bool.{Bool, true, false, ◌||◌, false≢true}
-use mathlib.Core.Logic.{◌≢◌, ◌⊎◌, inl, inr, ⊎_elim}
-use mathlib.Core.List.{List, [], ◌∷◌, ◌++◌, map}
-use Prim.Native.Nat.{ℕ, suc, ◌+◌, ◌≤◌, ◌<◌}
-use native.Mathlib.Omega.{arith}
-use lib.Dec.{eqb}
-use lib.ListN.{length, get_or, replicate, length-append, length-set}
-use borrow.Author.Tests.{eqb-true, ne_eqb}
+use Rattle.std.proofs.Common.{◌≡◌, ℕ, suc, ◌+◌, ◌<◌, ◌≤◌, Bool, true, false, ◌||◌, eqb, ◌≢◌, ◌⊎◌, List, [], ◌∷◌, ◌++◌, map, length, get_or}
+use Rattle.std.proofs.Common.{replicate, sym, refl, ap, ◌∙◌, inl, inr, ⊎_elim, arith, length-append, length-set, ne_eqb, eqb-true}
+use mathlib.Core.Bool.{false≢true}
 use Rattle.model.specs.Table.{Words, at}
 use Rattle.model.specs.SoundTest.{elem, distinct}
 use Rattle.model.specs.Cells.{cell_for, entered, entered_all}
@@ -52,7 +46,8 @@ sub-length (x ∷ xs) ns d h =
     let a = c.before in
     let b = c.after in
     let rest : Each (λ (y : ℕ). elem y (a ++ b) ≡ true) xs =
-    mem-each _ xs (λ y m. sym (elem-other y x a b (λ q. each-mem (λ (n : ℕ). n ≢ x) ((elem-false x xs).0 u.0) m q)) ∙ ap (elem y) (sym c.shape) ∙ each-mem (λ (y : ℕ). elem y ns ≡ true) h.1 m) in
+    mem-each _ xs (λ y m. sym (elem-other y x a b (λ q. each-mem (λ (n : ℕ). n ≢ x) ((elem-false x xs).0 u.0) m q))
+    ∙ ap (elem y) (sym c.shape) ∙ each-mem (λ (y : ℕ). elem y ns ≡ true) h.1 m) in
     omega (arith, sub-length xs (a ++ b) u.1 rest, ap length c.shape, length-append a (x ∷ b), length-append a b)
 
 -- ---- a free cell
@@ -75,6 +70,7 @@ free-or-full (c ∷ cs) = go (same-or-not c 0) (free-or-full cs)
     go (inr z) (inl f) = inl (record { cell = suc f.cell; inside = omega (arith, f.inside); free = f.free })
     go (inr z) (inr f) = inr (z, f)
 
+-- cells that hold fewer numbers than there are cells have a free one among them
 pub room : (cs : Words) (ns : List ℕ) → SetOf cs (λ (x : ℕ). elem x ns) → length ns < length cs → Free cs
 room cs ns s l = ⊎_elim (λ f. f) (λ full. absurd (omega (arith, sub-length cs ns (once full) (members full)))) (free-or-full cs)
   where
@@ -93,32 +89,46 @@ room cs ns s l = ⊎_elim (λ f. f) (λ full. absurd (omega (arith, sub-length c
 
 -- ---- from nothing on
 
+-- cells that are all 0 hold the empty set
 pub none-set : (n : ℕ) → SetOf (replicate n 0) (λ (x : ℕ). elem x [])
-none-set n = record { known = λ i z. absurd (z (at-replicate n i)); found = λ x e. absurd (false≢true (unfold elem in e)); once = λ i j z e. absurd (z (at-replicate n i)) }
+none-set n = record {
+  known = λ i z. absurd (z (at-replicate n i));
+  found = λ x e. absurd (false≢true (unfold elem in e));
+  once = λ i j z e. absurd (z (at-replicate n i));
+}
 
+-- cells that hold a set hold every set that has the same members
 pub same-set : (cs : Words) (f g : ℕ → Bool) → ((x : ℕ) → f x ≡ g x) → SetOf cs f → SetOf cs g
 same-set cs f g e s = record { known = λ i z. sym (e (at cs i)) ∙ s.known i z; found = λ x h. s.found x (e x ∙ h); once = s.once }
 
+-- entering a number keeps the number of cells
 pub entered-length : (cs : Words) (x : ℕ) → length (entered cs x) ≡ length cs
 unfolding entered
 entered-length cs x = length-set cs (cell_for cs x) x
 
-pub entered-one : (cs : Words) (ns : List ℕ) (x : ℕ) → SetOf cs (λ (y : ℕ). elem y ns) → elem 0 ns ≡ false → x ≢ 0 → elem x ns ≡ false → length ns < length cs → SetOf (entered cs x) (λ (y : ℕ). elem y (x ∷ ns))
+-- if cells that hold ns have room, and x is new and not 0, they hold x and ns once x is entered
+pub entered-one : (cs : Words) (ns : List ℕ) (x : ℕ) → SetOf cs (λ (y : ℕ). elem y ns) → elem 0 ns ≡ false → x ≢ 0 → elem x ns ≡ false
+    → length ns < length cs → SetOf (entered cs x) (λ (y : ℕ). elem y (x ∷ ns))
 unfolding elem
 entered-one cs ns x s z r n l =
     let f = room cs ns s l in
     (entered-set (length cs) cs (λ (y : ℕ). elem y ns) (omega arith) z refl s x r n f.cell f.inside f.free)
 
 -- numbers that differ, none of them 0, are held in the order of a set
-pub entered-all : (xs ns : List ℕ) (cs : Words) → SetOf cs (λ (y : ℕ). elem y ns) → elem 0 ns ≡ false → Each (λ (x : ℕ). x ≢ 0) xs → distinct xs ≡ true → Each (λ (x : ℕ). elem x ns ≡ false) xs
+pub entered-all : (xs ns : List ℕ) (cs : Words) → SetOf cs (λ (y : ℕ). elem y ns) → elem 0 ns ≡ false → Each (λ (x : ℕ). x ≢ 0) xs
+    → distinct xs ≡ true → Each (λ (x : ℕ). elem x ns ≡ false) xs
     → length xs + length ns ≤ length cs → SetOf (entered_all cs xs) (λ (y : ℕ). elem y xs || elem y ns)
 unfolding entered_all elem
 entered-all [] ns cs s z r d n l = s
 entered-all (x ∷ xs) ns cs s z r d n l =
     let u = (distinct-cons x xs).0 d in
     let after = entered-one cs ns x s z r.0 n.0 (omega arith) in
-    let later : Each (λ (y : ℕ). elem y (x ∷ ns) ≡ false) xs = mem-each _ xs (λ y m. (elem-cons y x ns).1 (each-mem (λ (w : ℕ). w ≢ x) ((elem-false x xs).0 u.0) m, each-mem (λ (w : ℕ). elem w ns ≡ false) n.1 m)) in
-    same-set _ _ _ (λ y. swap y) (entered-all xs (x ∷ ns) (entered cs x) after ((elem-cons 0 x ns).1 ((λ q. r.0 (sym q)), z)) r.1 u.1 later (omega (arith, entered-length cs x)))
+    let later : Each (λ (y : ℕ). elem y (x ∷ ns) ≡ false) xs =
+    mem-each _ xs (λ y m. (elem-cons y x ns).1
+    (each-mem (λ (w : ℕ). w ≢ x) ((elem-false x xs).0 u.0) m, each-mem (λ (w : ℕ). elem w ns ≡ false) n.1 m)) in
+    same-set _ _ _ (λ y. swap y)
+    (entered-all xs (x ∷ ns) (entered cs x) after ((elem-cons 0 x ns).1 ((λ q. r.0 (sym q)), z)) r.1 u.1 later
+    (omega (arith, entered-length cs x)))
   where
     swap : (y : ℕ) → (elem y xs || elem y (x ∷ ns)) ≡ (elem y (x ∷ xs) || elem y ns)
     swap y = or-turn (elem y xs) (eqb y x) (elem y ns)

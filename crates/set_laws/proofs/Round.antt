@@ -1,11 +1,7 @@
 -- Cells that go round: how far one comes after another.
-use mathlib.Core.Path.{◌≡◌, refl, ap, ◌∙◌}
-use mathlib.Core.Bool.{Bool, true, false, cond}
-use mathlib.Core.Logic.{◌≢◌, ◌⊎◌, inl, inr}
-use Prim.Native.Nat.{ℕ, suc, ◌+◌, ◌-◌, ◌≤◌, ◌<◌}
-use native.Mathlib.Omega.{arith}
-use lib.Dec.{eqb, leb}
-use borrow.Author.Tests.{eqb-true, eqb-false, leb-true, leb-false}
+use Rattle.std.proofs.Common.{◌≡◌, ℕ, suc, ◌+◌, ◌-◌, ◌<◌, ◌≤◌, Bool, true, false, cond, eqb, leb, ◌≢◌, ◌⊎◌, refl, ap, ◌∙◌, inl, inr, arith}
+use Rattle.std.proofs.Common.{eqb-true, leb-false, leb-true}
+use borrow.Author.Tests.{eqb-false}
 use Rattle.model.specs.Cells.{next_cell, ahead}
 
 -- j comes d after i
@@ -77,40 +73,58 @@ module _ (m : ℕ) where
   ahead-nearer j f h l z = go (next_cell m j) (next m j) (ahead m j f) (around m j f h) (λ n i. around m n f i)
     where
       step : (n c d : ℕ) → Next m j n → Around m j f c → Around m n f d → suc d ≡ c
-      step n c d (inl q) (inl a) (inl b) = let x = a.1 in let y = b.1 in let u = q.0 in let w = q.1 in let o = a.0 in let v = b.0 in omega arith
+      step n c d (inl q) (inl a) (inl b) = let x = a.1 in let y = b.1 in let u = q.0 in let w = q.1 in let o =
+          a.0 in let v = b.0 in omega arith
       step n c d (inl q) (inl a) (inr b) = let v = b.0 in let w = q.1 in absurd (omega arith)
-      step n c d (inl q) (inr a) (inl b) = let x = a.1 in let y = b.1 in let u = q.0 in let w = q.1 in let o = a.0 in let v = b.0 in omega arith
+      step n c d (inl q) (inr a) (inl b) = let x = a.1 in let y = b.1 in let u = q.0 in let w = q.1 in let o =
+          a.0 in let v = b.0 in omega arith
       step n c d (inl q) (inr a) (inr b) = let v = b.0 in let w = q.1 in absurd (omega arith)
-      step n c d (inr q) (inl a) (inl b) = let x = a.1 in let y = b.1 in let u = q.0 in let w = q.1 in let o = a.0 in let v = b.0 in omega arith
-      step n c d (inr q) (inl a) (inr b) = let x = a.1 in let y = b.1 in let u = q.0 in let w = q.1 in let o = a.0 in let v = b.0 in absurd (z (omega arith))
-      step n c d (inr q) (inr a) (inl b) = let x = a.1 in let y = b.1 in let u = q.0 in let w = q.1 in let o = a.0 in let v = b.0 in absurd (omega arith)
-      step n c d (inr q) (inr a) (inr b) = let x = a.1 in let y = b.1 in let u = q.0 in let w = q.1 in let o = a.0 in let v = b.0 in omega arith
+      step n c d (inr q) (inl a) (inl b) = let x = a.1 in let y = b.1 in let u = q.0 in let w = q.1 in let o =
+          a.0 in let v = b.0 in omega arith
+      step n c d (inr q) (inl a) (inr b) = let x = a.1 in let y = b.1 in let u = q.0 in let w = q.1 in let o = a.0 in let v =
+          b.0 in absurd (z (omega arith))
+      step n c d (inr q) (inr a) (inl b) = let x = a.1 in let y = b.1 in let u = q.0 in let w = q.1 in let o = a.0 in let v =
+          b.0 in absurd (omega arith)
+      step n c d (inr q) (inr a) (inr b) = let x = a.1 in let y = b.1 in let u = q.0 in let w = q.1 in let o =
+          a.0 in let v = b.0 in omega arith
 
-      go : (n : ℕ) → Next m j n → (c : ℕ) → Around m j f c → ((n : ℕ) → n < m → Around m n f (ahead m n f)) → suc (ahead m (next_cell m j) f) ≡ c
+      go : (n : ℕ) → Next m j n → (c : ℕ) → Around m j f c → ((n : ℕ) → n < m → Around m n f (ahead m n f))
+          → suc (ahead m (next_cell m j) f) ≡ c
       go n q c a b = step (next_cell m j) c (ahead m (next_cell m j) f) (next m j) a (b (next_cell m j) (next-in m j h))
 
   -- one step farther from i
   pub ahead-farther : (i j : ℕ) → i < m → j < m → next_cell m j ≢ i → ahead m i (next_cell m j) ≡ suc (ahead m i j)
-  ahead-farther i j h l z = go (next_cell m j) (next m j) z (ahead m i j) (around m i j h) (ahead m i (next_cell m j)) (around m i (next_cell m j) h)
+  ahead-farther i j h l z =
+      go (next_cell m j) (next m j) z (ahead m i j) (around m i j h) (ahead m i (next_cell m j)) (around m i (next_cell m j) h)
     where
       go : (n : ℕ) → Next m j n → n ≢ i → (c : ℕ) → Around m i j c → (d : ℕ) → Around m i n d → d ≡ suc c
-      go n (inl q) o c (inl a) d (inl b) = let x = a.1 in let y = b.1 in let u = q.0 in let w = q.1 in let s = a.0 in let v = b.0 in absurd (o (omega arith))
-      go n (inl q) o c (inl a) d (inr b) = let x = a.1 in let y = b.1 in let u = q.0 in let w = q.1 in let s = a.0 in let v = b.0 in omega arith
-      go n (inl q) o c (inr a) d (inl b) = let x = a.1 in let y = b.1 in let u = q.0 in let w = q.1 in let s = a.0 in let v = b.0 in absurd (omega arith)
-      go n (inl q) o c (inr a) d (inr b) = let x = a.1 in let y = b.1 in let u = q.0 in let w = q.1 in let s = a.0 in let v = b.0 in absurd (omega arith)
-      go n (inr q) o c (inl a) d (inl b) = let x = a.1 in let y = b.1 in let u = q.0 in let w = q.1 in let s = a.0 in let v = b.0 in omega arith
-      go n (inr q) o c (inl a) d (inr b) = let x = a.1 in let y = b.1 in let u = q.0 in let w = q.1 in let s = a.0 in let v = b.0 in absurd (omega arith)
-      go n (inr q) o c (inr a) d (inl b) = let x = a.1 in let y = b.1 in let u = q.0 in let w = q.1 in let s = a.0 in let v = b.0 in absurd (o (omega arith))
-      go n (inr q) o c (inr a) d (inr b) = let x = a.1 in let y = b.1 in let u = q.0 in let w = q.1 in let s = a.0 in let v = b.0 in omega arith
+      go n (inl q) o c (inl a) d (inl b) = let x = a.1 in let y = b.1 in let u = q.0 in let w = q.1 in let s = a.0 in let v =
+          b.0 in absurd (o (omega arith))
+      go n (inl q) o c (inl a) d (inr b) = let x = a.1 in let y = b.1 in let u = q.0 in let w = q.1 in let s =
+          a.0 in let v = b.0 in omega arith
+      go n (inl q) o c (inr a) d (inl b) = let x = a.1 in let y = b.1 in let u = q.0 in let w = q.1 in let s = a.0 in let v =
+          b.0 in absurd (omega arith)
+      go n (inl q) o c (inr a) d (inr b) = let x = a.1 in let y = b.1 in let u = q.0 in let w = q.1 in let s = a.0 in let v =
+          b.0 in absurd (omega arith)
+      go n (inr q) o c (inl a) d (inl b) = let x = a.1 in let y = b.1 in let u = q.0 in let w = q.1 in let s =
+          a.0 in let v = b.0 in omega arith
+      go n (inr q) o c (inl a) d (inr b) = let x = a.1 in let y = b.1 in let u = q.0 in let w = q.1 in let s = a.0 in let v =
+          b.0 in absurd (omega arith)
+      go n (inr q) o c (inr a) d (inl b) = let x = a.1 in let y = b.1 in let u = q.0 in let w = q.1 in let s = a.0 in let v =
+          b.0 in absurd (o (omega arith))
+      go n (inr q) o c (inr a) d (inr b) = let x = a.1 in let y = b.1 in let u = q.0 in let w = q.1 in let s =
+          a.0 in let v = b.0 in omega arith
 
   -- on the way from h to j: i, if it is no farther before j than h is, or if it comes after h no later than j does
-  pub ahead-through : (h i j : ℕ) → h < m → i < m → j < m → (ahead m i j ≤ ahead m h j) ⊎ (ahead m h i ≤ ahead m h j) → ahead m h i + ahead m i j ≡ ahead m h j
+  pub ahead-through : (h i j : ℕ) → h < m → i < m → j < m → (ahead m i j ≤ ahead m h j) ⊎ (ahead m h i ≤ ahead m h j)
+      → ahead m h i + ahead m i j ≡ ahead m h j
   ahead-through h i j a b c e = go (ahead m h i) (ahead m i j) (ahead m h j) (around m h i a) (around m i j b) (around m h j a) e
     where
       go : (x y z : ℕ) → Around m h i x → Around m i j y → Around m h j z → (y ≤ z) ⊎ (x ≤ z) → x + y ≡ z
       go x y z (inl p) (inl q) (inl r) s = let k = p.1 in let l = q.1 in let n = r.1 in omega arith
       go x y z (inl p) (inl q) (inr r) s = let k = p.1 in let l = q.1 in let n = r.0 in absurd (omega arith)
-      go x y z (inl p) (inr q) (inl r) s = let k = p.1 in let l = q.1 in let n = r.1 in let o = p.0 in let u = q.0 in let w = r.0 in over x y z k l n s
+      go x y z (inl p) (inr q) (inl r) s = let k = p.1 in let l = q.1 in let n = r.1 in let o = p.0 in let u = q.0 in let w =
+          r.0 in over x y z k l n s
         where
           over : (x y z : ℕ) → h + x ≡ i → i + y ≡ j + m → h + z ≡ j → (y ≤ z) ⊎ (x ≤ z) → x + y ≡ z
           over x y z k l n (inl s) = absurd (omega (arith, a, b, c, q.0, p.0, r.0))

@@ -1,11 +1,5 @@
 -- The shifts of a node of the table, as those of the record read from it.
-use mathlib.Core.Path.{◌≡◌, refl, ap, ◌∙◌}
-use mathlib.Core.Bool.{Bool, true, false}
-use mathlib.Core.List.{List, [], ◌∷◌, map}
-use Prim.Native.Nat.{ℕ, ◌+◌, ◌*◌, ◌<◌}
-use native.Mathlib.Omega.{arith}
-use lib.Dec.{eqb}
-use lib.ListN.{length}
+use Rattle.std.proofs.Common.{◌≡◌, ℕ, ◌+◌, ◌*◌, ◌<◌, Bool, true, false, eqb, List, [], ◌∷◌, map, length, refl, ap, ◌∙◌, arith}
 use Rattle.model.specs.declared.Node.{Node}
 use Rattle.model.specs.Table.{Words, at, node_start, has_node, node}
 use Rattle.model.specs.Slots.{Slot, with_class, shown, hidden_slots, used, node_view, view}
@@ -31,10 +25,12 @@ unfolding shown hidden_slots
 shown-all p [] h = refl
 shown-all p (s ∷ ss) h = go (eqb s.pointer p) refl h (shown-all s.pointer ss)
   where
-    go : (b : Bool) → eqb s.pointer p ≡ b → length (hidden_slots p (s ∷ ss)) ≡ 0 → (length (hidden_slots s.pointer ss) ≡ 0 → shown s.pointer ss ≡ ss) → shown p (s ∷ ss) ≡ s ∷ ss
+    go : (b : Bool) → eqb s.pointer p ≡ b → length (hidden_slots p (s ∷ ss)) ≡ 0
+        → (length (hidden_slots s.pointer ss) ≡ 0 → shown s.pointer ss ≡ ss) → shown p (s ∷ ss) ≡ s ∷ ss
     go true e g ih = absurd (omega (arith, rw (e, hidden_slots) at g))
     go false e g ih = rw (e, shown) (ap (λ (us : List Slot). s ∷ us) (ih (rw (e, hidden_slots) at g)))
 
+-- in a node without hidden slots, those shown are the slots in use that are read
 pub shown-read : (t : Words) (n : ℕ) (x : Node) → x ≡ node t n → (node_view t n).hidden ≡ 0 → (node_view t n).shown ≡ in_use_of x.slots
 unfolding in_use_of used
 shown-read t n x q z = rw q (shown-all _ _ z)
@@ -71,7 +67,8 @@ module _ {t : Words} {n : ℕ} {o : Opened} (q : Opens t n o) where
       pub place-inside : length o.node.slots ≡ 24 → p < 12
       place-inside s = omega (arith, place-used, in-use-short o.node.slots, s)
 
-      pub class-as : (c y : ℕ) → y ≡ with_class (at o.node.slots (2 * p + 1)) c → set_class_at t n k c ≡ in_from o.start (pointer_to p y) ∷ []
+      pub class-as : (c y : ℕ) → y ≡ with_class (at o.node.slots (2 * p + 1)) c → set_class_at t n k c
+          ≡ in_from o.start (pointer_to p y) ∷ []
       unfolding set_class_at
       class-as c y ey = rw (shown-is, ← ep, in-use-at o.node.slots p place-used, ey, q.start_is)
 

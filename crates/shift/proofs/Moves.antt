@@ -1,11 +1,6 @@
 -- The moves that make and close a gap, slot by slot.
-use mathlib.Core.Path.{◌≡◌}
-use mathlib.Core.List.{List, [], ◌∷◌, ◌++◌, map}
-use Prim.Native.Nat.{ℕ, suc, ◌+◌, ◌-◌, ◌*◌, ◌<◌, ◌≤◌}
-use native.Mathlib.Numerals.{add-one}
-use native.Mathlib.Omega.{arith}
-use lib.ListN.{length, take, drop, length-drop, drop_of_length-le}
-use lib.Seq.{get_or-drop, take-suc, take_all, length-take-le}
+use Rattle.std.proofs.Common.{◌≡◌, ℕ, suc, ◌+◌, ◌-◌, ◌*◌, ◌<◌, ◌≤◌, List, [], ◌∷◌, ◌++◌, map, length, take, drop, add-one, arith}
+use Rattle.std.proofs.Common.{length-drop, drop_of_length-le, length-take-le, get_or-drop, take_all, take-suc}
 use Rattle.model.specs.Table.{Words, at}
 use Rattle.model.specs.Slots.{Slot, slot}
 use Rattle.model.specs.Orders.{Store}
@@ -17,7 +12,8 @@ use Rattle.slots.proofs.Places.{in-use-cons, in-use-at}
 
 -- ---- up: the last slot moves first
 
-move-up-snoc : (p : ℕ) (ss : List Slot) (s : Slot) → move_up p (ss ++ (s ∷ [])) ≡ pointer_to (suc (p + length ss)) s.pointer ∷ key_to (suc (p + length ss)) s.key ∷ move_up p ss
+move-up-snoc : (p : ℕ) (ss : List Slot) (s : Slot) → move_up p (ss ++ (s ∷ [])) ≡ pointer_to (suc (p + length ss)) s.pointer
+    ∷ key_to (suc (p + length ss)) s.key ∷ move_up p ss
 unfolding move_up
 move-up-snoc p [] s = let e : p + 0 ≡ p = omega arith in rw e
 move-up-snoc p (x ∷ ss) s = let e : suc p + length ss ≡ p + suc (length ss) = omega arith in rw (move-up-snoc (suc p) ss s, e)
@@ -39,7 +35,8 @@ module _ (o : Opened) (p i : ℕ) where
 
   module _ (h : p < i) (l : i ≤ length (in_use_of ws)) where
     -- the slots from p on below i, the last of them apart
-    shorter : take (i - p) (drop p (in_use_of ws)) ≡ take (i - 1 - p) (drop p (in_use_of ws)) ++ (slot (at ws (2 * (i - 1))) (at ws (2 * (i - 1) + 1)) ∷ [])
+    shorter : take (i - p) (drop p (in_use_of ws)) ≡ take (i - 1 - p) (drop p (in_use_of ws))
+        ++ (slot (at ws (2 * (i - 1))) (at ws (2 * (i - 1) + 1)) ∷ [])
     shorter =
         let e : i - p ≡ suc (i - 1 - p) = omega arith in
         let n : i - 1 - p < length (drop p (in_use_of ws)) = rw length-drop (omega arith) in
@@ -50,14 +47,16 @@ module _ (o : Opened) (p i : ℕ) where
     last = rw (length-take-le (i - 1 - p) (drop p (in_use_of ws)) (rw length-drop (omega arith))) (omega arith)
 
     pub up-next : up_to o p i
-        ≡ in_from o.start (pointer_to (i - 1 + 1) (at ws (2 * (i - 1) + 1))) ∷ in_from o.start (key_to (i - 1 + 1) (at ws (2 * (i - 1)))) ∷ up_to o p (i - 1)
+        ≡ in_from o.start (pointer_to (i - 1 + 1) (at ws (2 * (i - 1) + 1)))
+        ∷ in_from o.start (key_to (i - 1 + 1) (at ws (2 * (i - 1)))) ∷ up_to o p (i - 1)
     up-next = let e : i - 1 + 1 ≡ i = omega arith in rw (shorter, move-up-snoc, last, e)
 
 -- ---- down: the first slot moves first
 
 module _ (o : Opened) where
   pub down-next : (i : ℕ) → suc i < length (held o)
-      → moves_down o i ≡ in_from o.start (key_to i (at o.node.slots (2 * i + 2))) ∷ in_from o.start (pointer_to i (at o.node.slots (2 * i + 3))) ∷ moves_down o (i + 1)
+      → moves_down o i ≡ in_from o.start (key_to i (at o.node.slots (2 * i + 2)))
+      ∷ in_from o.start (pointer_to i (at o.node.slots (2 * i + 3))) ∷ moves_down o (i + 1)
   unfolding move_down
   down-next i l =
       let key : 2 * suc i ≡ 2 * i + 2 = omega arith in

@@ -1,12 +1,6 @@
 -- The 32 words of a node: filled from slot words one by one, and stored one by one.
-use mathlib.Core.Path.{◌≡◌, refl}
-use mathlib.Core.List.{[], ◌∷◌, ◌++◌}
-use Prim.Native.Nat.{ℕ, zero, suc, ◌+◌, ◌-◌, ◌*◌, ◌<◌, ◌≤◌}
-use native.Mathlib.Numerals.{add-one}
-use native.Mathlib.Nat.{add-suc}
-use native.Mathlib.Omega.{arith}
-use lib.ListN.{length, take, drop, replicate, length-take, length-drop, drop_of_length-le}
-use lib.Seq.{drop-cons, take_all}
+use Rattle.std.proofs.Common.{◌≡◌, ℕ, zero, suc, ◌+◌, ◌-◌, ◌*◌, ◌<◌, ◌≤◌, [], ◌∷◌, ◌++◌, length, take, drop, replicate, refl, add-suc}
+use Rattle.std.proofs.Common.{add-one, arith, length-drop, drop_of_length-le, length-take, take_all, drop-cons}
 use Rattle.cut_laws.proofs.Applying.{take-append}
 use Rattle.std.proofs.lemmas.List.{take-replicate, drop-replicate}
 use Rattle.model.specs.Table.{Words, at}
@@ -37,14 +31,23 @@ pair-words (suc k) m ws e =
     let a : 2 * suc k ≡ suc (suc (2 * k)) = omega arith in
     let b : 2 * (m + 1) ≡ suc (suc (2 * m)) = omega arith in
     let l : suc (2 * m) < length ws = omega (arith, in-use-short ws) in
-    rw (in-use-cons ws m h, pair-words k (m + 1) ws (omega arith), a, b, drop-cons ws (2 * m) 0 (omega arith), drop-cons ws (suc (2 * m)) 0 l, add-one)
+    rw (
+      in-use-cons ws m h,
+      pair-words k (m + 1) ws (omega arith),
+      a,
+      b,
+      drop-cons ws (2 * m) 0 (omega arith),
+      drop-cons ws (suc (2 * m)) 0 l,
+      add-one,
+    )
 
 -- words filled up with zeros
 padded : (s : Words) → length s ≤ 24 → take 24 (s ++ replicate 24 0) ≡ s ++ replicate (24 - length s) 0
 padded s h = rw (take-append 24 s (replicate 24 0), take_all 24 s h, take-replicate {X = ℕ} (24 - length s) 24 0 (omega arith))
 
 -- the words of the slots in use from slot `from` on, as they are copied over zeros
-module _ (left sibling level fence : ℕ) (ws : Words) (from count : ℕ) (c : count ≡ length (in_use_of ws)) (h : from ≤ count) (long : length ws ≡ 24) where
+module _ (left sibling level fence : ℕ) (ws : Words) (from count : ℕ) (c : count ≡ length (in_use_of ws)) (h : from ≤ count)
+    (long : length ws ≡ 24) where
   abbrev copied : Words
   copied = take (2 * count - 2 * from) (drop (2 * from) ws)
 
@@ -55,7 +58,8 @@ module _ (left sibling level fence : ℕ) (ws : Words) (from count : ℕ) (c : c
       rw (pair-words (length (in_use_of ws) - from) from ws refl, k) (padded copied l)
 
   pub copied-words : (us : Words) → us ≡ take (2 * count - 2 * from) (drop (2 * from) ws)
-      → left ∷ sibling ∷ level ∷ fence ∷ 0 ∷ 0 ∷ 0 ∷ 0 ∷ (us ++ drop (8 + length (take (2 * count - 2 * from) (drop (2 * from) ws)) - 8) (replicate 24 0))
+      → left ∷ sibling ∷ level ∷ fence ∷ 0 ∷ 0 ∷ 0 ∷ 0
+      ∷ (us ++ drop (8 + length (take (2 * count - 2 * from) (drop (2 * from) ws)) - 8) (replicate 24 0))
       ≡ node_words left sibling level fence (drop from (in_use_of ws))
   unfolding node_words
   copied-words us e =

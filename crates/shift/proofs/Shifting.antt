@@ -1,10 +1,6 @@
 -- What is left of a shift in, a shift out and a closing, as the code makes their stores.
-use mathlib.Core.Path.{◌≡◌, ap}
-use mathlib.Core.List.{List, [], ◌∷◌, ◌++◌, map-append}
-use Prim.Native.Nat.{ℕ, pred, ◌+◌, ◌-◌, ◌*◌, ◌<◌, ◌≤◌}
-use native.Mathlib.Numerals.{add-one}
-use native.Mathlib.Omega.{arith}
-use lib.ListN.{length}
+use Rattle.std.proofs.Common.{◌≡◌, ℕ, pred, ◌+◌, ◌-◌, ◌*◌, ◌<◌, ◌≤◌, List, [], ◌∷◌, ◌++◌, length, ap, add-one, arith}
+use mathlib.Core.List.{map-append}
 use Rattle.model.specs.Table.{at}
 use Rattle.model.specs.Orders.{Store}
 use Rattle.model.specs.Shifts.{key_to, pointer_to, shift_in, shift_out, close}
@@ -29,7 +25,8 @@ module _ (o : Opened) (k x : ℕ) (p : Place) where
 
   pub in-next : (i : ℕ) → p.at < i → i ≤ length (held o)
       → in_left i
-      ≡ in_from o.start (pointer_to (i - 1 + 1) (at o.node.slots (2 * (i - 1) + 1))) ∷ in_from o.start (key_to (i - 1 + 1) (at o.node.slots (2 * (i - 1)))) ∷ in_left (i - 1)
+      ≡ in_from o.start (pointer_to (i - 1 + 1) (at o.node.slots (2 * (i - 1) + 1)))
+      ∷ in_from o.start (key_to (i - 1 + 1) (at o.node.slots (2 * (i - 1)))) ∷ in_left (i - 1)
   in-next i h l = ap (λ (ss : List Store). ss ++ last_three) (up-next o p.at i h l)
 
   pub in-end : (i : ℕ) → i ≤ p.at → in_left i ≡ last_three
@@ -47,7 +44,8 @@ module _ (o : Opened) (m : ℕ) (e : m ≡ pred (length (held o))) where
   gap-start p = rw (e, map-append)
 
   pub gap-next : (i : ℕ) → i < m
-      → gap_left o m i ≡ in_from o.start (key_to i (at o.node.slots (2 * i + 2))) ∷ in_from o.start (pointer_to i (at o.node.slots (2 * i + 3))) ∷ gap_left o m (i + 1)
+      → gap_left o m i ≡ in_from o.start (key_to i (at o.node.slots (2 * i + 2)))
+      ∷ in_from o.start (pointer_to i (at o.node.slots (2 * i + 3))) ∷ gap_left o m (i + 1)
   gap-next i h = ap (λ (ss : List Store). ss ++ (in_from o.start (pointer_to m 0) ∷ [])) (down-next o i (omega arith))
 
   pub gap-end : (i : ℕ) → m ≤ i → gap_left o m i ≡ in_from o.start (pointer_to m 0) ∷ []
@@ -55,6 +53,7 @@ module _ (o : Opened) (m : ℕ) (e : m ≡ pred (length (held o))) where
 
 -- ---- shift out: a store, the gap closed
 
-pub out-start : (o : Opened) (k : ℕ) (p : Place) → PlaceOf o k p → slot_out o k ≡ in_from o.start (pointer_to p.at p.before) ∷ gap_closed o p.at
+pub out-start : (o : Opened) (k : ℕ) (p : Place) → PlaceOf o k p → slot_out o k
+    ≡ in_from o.start (pointer_to p.at p.before) ∷ gap_closed o p.at
 unfolding slot_out shift_out gap_closed
 out-start o k p c = rw (c.before_is, c.at_is)

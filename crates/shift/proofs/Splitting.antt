@@ -1,13 +1,6 @@
 -- Split and new root, step by step on a desk.
-use mathlib.Core.Path.{◌≡◌, refl, ap, ◌∙◌}
-use mathlib.Core.Bool.{Bool, true, false}
-use mathlib.Core.List.{List, [], ◌∷◌, ◌++◌}
-use Prim.Native.Nat.{ℕ, ◌+◌, ◌≤◌}
-use native.Mathlib.Numerals.{add-one}
-use native.Mathlib.Omega.{arith}
-use lib.Dec.{eqb}
-use lib.ListN.{length, drop, set, replicate}
-use borrow.Author.Tests.{eq-eqb, ne_eqb}
+use Rattle.std.proofs.Common.{◌≡◌, ℕ, ◌+◌, ◌≤◌, Bool, true, false, eqb, List, [], ◌∷◌, ◌++◌, length, drop, set, replicate, refl, ap, ◌∙◌}
+use Rattle.std.proofs.Common.{add-one, arith, eq-eqb, ne_eqb}
 use Rattle.model.specs.declared.Node.{Node}
 use Rattle.model.specs.Table.{MARK, Words, at, root_word, node_start, has_node, node}
 use Rattle.model.specs.Slots.{Slot, slot, node_view, view_from, height}
@@ -35,7 +28,8 @@ module _ (n : Node) (h : 6 ≤ length (in_use_of n.slots)) where
   unfolding upper_words
   upper-leaf e = rw (eq-eqb n.level 0 e, middle-at)
 
-  pub upper-inner : (n.level ≡ 0 → ⊥) → node_words (at n.slots 11) n.sibling n.level (at n.slots 10) (drop 6 (in_use_of n.slots)) ≡ upper_words n
+  pub upper-inner : (n.level ≡ 0 → ⊥)
+      → node_words (at n.slots 11) n.sibling n.level (at n.slots 10) (drop 6 (in_use_of n.slots)) ≡ upper_words n
   unfolding upper_words
   upper-inner e = rw (ne_eqb n.level 0 e, middle-at)
 
@@ -50,7 +44,8 @@ pub record Parts (t : Words) (a b p u : ℕ) (x y : Opened) : Type 0 where
   pub above : Opens t p y
   pub above-plain : (node_view t p).hidden ≡ 0
 
-pub parts : {t : Words} {a b p u : ℕ} {x y : Opened} → Opens t a x → (node_view t a).hidden ≡ 0 → 6 ≤ length (node_view t a).shown → has_node t b ≡ true → u ≡ start_of t b
+pub parts : {t : Words} {a b p u : ℕ} {x y : Opened} → Opens t a x → (node_view t a).hidden ≡ 0 → 6 ≤ length (node_view t a).shown
+    → has_node t b ≡ true → u ≡ start_of t b
     → Opens t p y → (node_view t p).hidden ≡ 0 → Parts t a b p u x y
 parts l z m h e o k = record { lower = l; lower-plain = z; enough = m; upper = starts _ _ _ h e; above = o; above-plain = k }
 
@@ -82,7 +77,8 @@ module _ {t : Words} {a b p u : ℕ} {x y : Opened} (c : Parts t a b p u x y) wh
   unfolding split
   split-steps q = rw (words-as, ← q, key-as, shift-in-as c.above c.above-plain, c.lower.start_is, c.upper, add-one)
 
-  pub split-rest : {ws : Words} → ws ≡ upper_words x.node → {f : Writer} → Room (split t a b p) (of f) → Rest (put_all u ws ++ after) f f (stored_all (split t a b p) (of f))
+  pub split-rest : {ws : Words} → ws ≡ upper_words x.node → {f : Writer} → Room (split t a b p) (of f)
+      → Rest (put_all u ws ++ after) f f (stored_all (split t a b p) (of f))
   split-rest e r = rest-same (split-steps e) (rest-start r)
 
 -- ---- new root
@@ -104,5 +100,6 @@ module _ (t : Words) (x o n w l : ℕ) (eo : o ≡ at t x) (h : has_node t n ≡
   unfolding node_words
   root-steps = rw (eo, ← level-is, ← (starts t n w h e), add-one)
 
-  pub root-rest : {f : Writer} → Room (new_root_at x t n) (of f) → Rest (put_all w words ++ (put x n ∷ [])) f f (stored_all (new_root_at x t n) (of f))
+  pub root-rest : {f : Writer} → Room (new_root_at x t n) (of f)
+      → Rest (put_all w words ++ (put x n ∷ [])) f f (stored_all (new_root_at x t n) (of f))
   root-rest r = rest-same root-steps (rest-start r)

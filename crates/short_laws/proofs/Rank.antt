@@ -1,14 +1,10 @@
--- A script's number: where it lies by the script's length, that it goes by the request's order, and that number and script are each the other's
+-- A script's number: where it lies by the script's length, that it goes by the request's order, and that number and script are each the
+-- other's
 -- inverse.
-use mathlib.Core.Path.{◌≡◌, refl, sym, ap, ◌∙◌}
-use mathlib.Core.Bool.{Bool, true, false, cond, ◌&&◌, ◌||◌, false≢true}
-use mathlib.Core.Logic.{◌↔◌, ◌⊎◌, inl, inr}
-use mathlib.Core.List.{[], ◌∷◌, ◌++◌}
-use Prim.Native.Nat.{ℕ, zero, suc, ◌+◌, ◌*◌, ◌/◌, ◌%◌, ◌≤◌, ◌<◌}
-use native.Mathlib.Omega.{arith}
-use lib.Dec.{eqb, ltb}
-use lib.ListN.{length, length-append}
-use borrow.Author.Tests.{ltb-true, eqb-true, lt-ltb, le-ltb, eq-eqb, ne_eqb, leb-true, le-leb}
+use Rattle.std.proofs.Common.{◌≡◌, ℕ, zero, suc, ◌+◌, ◌*◌, ◌/◌, ◌%◌, ◌<◌, ◌≤◌, Bool, true, false, cond, ◌&&◌, ◌||◌, eqb, ltb, ◌⊎◌, ◌↔◌, []}
+use Rattle.std.proofs.Common.{◌∷◌, ◌++◌, length, sym, refl, ap, ◌∙◌, inl, inr, arith, length-append, ltb-true, le-ltb, lt-ltb, eq-eqb}
+use Rattle.std.proofs.Common.{ne_eqb, eqb-true, le-leb, leb-true}
+use mathlib.Core.Bool.{false≢true}
 use Rattle.model.specs.Codes.{read_on}
 use Rattle.list_laws.proofs.Tools.{Each, Each-append, all-each, Each-map, compared, and-iff}
 use Rattle.model.specs.Scripts.{Script, is_script, action_before, first_differs, before, SCRIPTS, rank_on, rank, unrank, script_of}
@@ -50,11 +46,13 @@ grown-more : (n m : ℕ) → n ≤ grown n m
 grown-more n zero = omega arith
 grown-more n (suc m) = omega (arith, grown-more (suc (6 * n)) m)
 
+-- grown n m does not fall as m rises
 pub grown-rises : (n l m : ℕ) → l ≤ m → grown n l ≤ grown n m
 grown-rises n zero m h = grown-more n m
 grown-rises n (suc l) zero h = absurd (omega arith)
 grown-rises n (suc l) (suc m) h = grown-rises (suc (6 * n)) l m (omega arith)
 
+-- grown n (m + 1) is 6 times grown n m, and one more
 pub grown-suc : (n m : ℕ) → grown n (suc m) ≡ suc (6 * grown n m)
 grown-suc n zero = refl
 grown-suc n (suc m) = grown-suc (suc (6 * n)) m
@@ -66,7 +64,8 @@ rank-bound s e = let p = (script-iff s).0 e in omega (arith, rank-high 1 0 s p.1
 pub rank-digits : (g n : ℕ) (s : Script) → rank_on (g + n) s ≡ grown g (length s) + read_on 6 n s
 unfolding rank_on read_on
 rank-digits g n [] = refl
-rank-digits g n (a ∷ s) = let e : 6 * (g + n) + suc a ≡ suc (6 * g) + (n * 6 + a) = omega arith in rw e (rank-digits (suc (6 * g)) (n * 6 + a) s)
+rank-digits g n (a ∷ s) = let e : 6 * (g + n) + suc a ≡ suc (6 * g) + (n * 6 + a) =
+    omega arith in rw e (rank-digits (suc (6 * g)) (n * 6 + a) s)
 
 -- ---- the order
 
@@ -103,10 +102,13 @@ action-order a b h k =
     h
 
 -- one action each: where they are the same, the rest decides
-first-step : (n a b : ℕ) (s u : Script) → a ≤ 5 → b ≤ 5 → Six s → length s ≡ length u → (first_differs s u ≡ true → rank_on (6 * n + suc a) s < rank_on (6 * n + suc a) u)
-    → (same : Bool) → eqb a b ≡ same → cond same (first_differs s u) (action_before a b) ≡ true → rank_on (6 * n + suc a) s < rank_on (6 * n + suc b) u
+first-step : (n a b : ℕ) (s u : Script) → a ≤ 5 → b ≤ 5 → Six s → length s ≡ length u
+    → (first_differs s u ≡ true → rank_on (6 * n + suc a) s < rank_on (6 * n + suc a) u)
+    → (same : Bool) → eqb a b ≡ same → cond same (first_differs s u) (action_before a b) ≡ true
+    → rank_on (6 * n + suc a) s < rank_on (6 * n + suc b) u
 first-step n a b s u h k c l rest true q e = rw (← (eqb-true a b q)) (rest e)
-first-step n a b s u h k c l rest false q e = rank-ahead (6 * n + suc a) (6 * n + suc b) s u c l (omega (arith, ltb-true a b (sym (action-order a b h k) ∙ e)))
+first-step n a b s u h k c l rest false q e =
+    rank-ahead (6 * n + suc a) (6 * n + suc b) s u c l (omega (arith, ltb-true a b (sym (action-order a b h k) ∙ e)))
 
 -- by the first action that differs
 first-less : (n : ℕ) (s u : Script) → Six s → Six u → length s ≡ length u → first_differs s u ≡ true → rank_on n s < rank_on n u
@@ -121,8 +123,10 @@ pub before-less : (s u : Script) → is_script s ≡ true → is_script u ≡ tr
 unfolding before
 before-less s u c d e = let p = (script-iff s).0 c in let q = (script-iff u).0 d in go p.1 q.1 (ltb (length s) (length u)) refl e
   where
-    go : Six s → Six u → (less : Bool) → ltb (length s) (length u) ≡ less → less || (eqb (length s) (length u) && first_differs s u) ≡ true → rank s < rank u
-    go p q true l e = omega (arith, rank-high 1 0 s p (omega arith), grown-rises 0 (suc (length s)) (length u) (ltb-true _ _ l), rank-low 0 0 u (omega arith))
+    go : Six s → Six u → (less : Bool) → ltb (length s) (length u) ≡ less → less || (eqb (length s) (length u) && first_differs s u)
+        ≡ true → rank s < rank u
+    go p q true l e = omega
+        (arith, rank-high 1 0 s p (omega arith), grown-rises 0 (suc (length s)) (length u) (ltb-true _ _ l), rank-low 0 0 u (omega arith))
     go p q false l e = let f = (and-iff _ _).0 e in first-less 0 s u p q (eqb-true _ _ f.0) f.1
 
 -- of two scripts of one length that are not the same one comes first
@@ -194,6 +198,7 @@ unrank-six zero n = tt
 unrank-six (suc m) zero = tt
 unrank-six (suc m) (suc n) = Each-append _ (unrank m (n / 6)) (n % 6 ∷ []) (unrank-six m (n / 6)) (omega arith, tt)
 
+-- with m actions at most, a number's script has at most m
 pub unrank-length : (m n : ℕ) → length (unrank m n) ≤ m
 unfolding unrank
 unrank-length zero n = omega arith
@@ -235,13 +240,18 @@ script-order i j h k =
 
 -- ---- the length, by where the number lies
 
+-- the number of a script lies among the numbers of the scripts of its length
 pub script-within : (n : ℕ) → n < SCRIPTS → (grown 0 (length (script_of n)) ≤ n) × (n < grown 1 (length (script_of n)))
 script-within n h =
-    let s = script_of n in
-    (omega (arith, script-rank n h, rank-low 0 0 s (omega arith)), omega (arith, script-rank n h, rank-high 1 0 s (unrank-six 4 n) (omega arith)))
+    let s = script_of n in (
+      omega (arith, script-rank n h, rank-low 0 0 s (omega arith)),
+      omega (arith, script-rank n h, rank-high 1 0 s (unrank-six 4 n) (omega arith)),
+    )
 
+-- the numbers from that of the first script of l actions on, below that of the first longer one, have l actions
 pub script-length : (l n : ℕ) → l ≤ 4 → grown 0 l ≤ n → n < grown 1 l → length (script_of n) ≡ l
-script-length l n h low high = go (length (script_of n)) (script-within n (omega (arith, grown-rises 1 l 4 h))) (compared (length (script_of n)) l)
+script-length l n h low high =
+    go (length (script_of n)) (script-within n (omega (arith, grown-rises 1 l 4 h))) (compared (length (script_of n)) l)
   where
     go : (m : ℕ) → (grown 0 m ≤ n) × (n < grown 1 m) → (m < l) ⊎ ((m ≡ l) ⊎ (l < m)) → m ≡ l
     go m w (inl k) = absurd (omega (arith, w.1, grown-rises 0 (suc m) l k))

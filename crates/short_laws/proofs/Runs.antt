@@ -1,13 +1,7 @@
--- Every table that a script meets agrees with the map before or after the action: no computation, but the laws of accepted calls and of search.
-use mathlib.Core.Path.{◌≡◌, refl, sym, ap, ◌∙◌}
-use mathlib.Core.Logic.{inl, inr}
-use mathlib.Core.Bool.{true, not, ◌||◌}
-use mathlib.Core.List.{List, [], ◌∷◌}
+-- Every table that a script meets agrees with the map before or after the action: no computation, but the laws of accepted calls and of
+-- search.
+use Rattle.std.proofs.Common.{◌≡◌, ℕ, zero, suc, true, not, ◌||◌, List, [], ◌∷◌, length, take, sym, refl, ap, ◌∙◌, inl, inr, arith, eq-eqb}
 use mathlib.Core.Option.{Option, none, some}
-use Prim.Native.Nat.{ℕ, zero, suc}
-use native.Mathlib.Omega.{arith}
-use lib.ListN.{length, take}
-use borrow.Author.Tests.{eq-eqb}
 use Rattle.model.specs.declared.Answer.TheVariants.{Absent}
 use Rattle.std.specs.Prelude.{Some, None}
 use Rattle.model.specs.Table.{Words, empty, empty_of}
@@ -31,7 +25,8 @@ use Rattle.two_laws.proofs.MapsTwo.{Steps, accepted-steps, sound-after}
 use Rattle.two_laws.proofs.LedgerTwo.{searched}
 use Rattle.two_laws.proofs.SameTwo.{settled-sound}
 use Rattle.two_laws.proofs.EmptyTwo.{empty-settled}
-use Rattle.model.specs.Scripts.{Script, call_of, script_of, SCRIPTS, cut_tables, same_next, same_answer, agrees, bad_tables, along, over_all, bad_count, bad_met}
+use Rattle.model.specs.Scripts.{Script, call_of, script_of, SCRIPTS, cut_tables, same_next, same_answer, agrees, bad_tables, along}
+use Rattle.model.specs.Scripts.{over_all, bad_count, bad_met}
 
 -- ---- a sound table agrees with its own map
 
@@ -64,9 +59,13 @@ module _ (x : Call) (words : ℕ) (t : Words) (s : sound t ≡ true) (ok : refus
   -- the table after some count of the orders is the one after some first part of the stores
   part-of : (c : ℕ) → (j : ℕ) × (carry (take c (orders_of x 0 t)) t ≡ apply (take j (stores_of x t)) t)
   part-of c =
-      let os = orders_of x 0 t in
-      (store_count (take c os), carry-stores (take c os) t ∙ ap (λ q. apply q t) (stores_in-take c os ∙ ap (take (store_count (take c os))) (orders-stores (stores_of x t))))
+      let os = orders_of x 0 t in (
+        store_count (take c os),
+        carry-stores (take c os) t
+            ∙ ap (λ q. apply q t) (stores_in-take c os ∙ ap (take (store_count (take c os))) (orders-stores (stores_of x t))),
+      )
 
+  -- after an accepted call on a sound table, collection 1 has the map changed as the call says
   pub after-map : map_of 1 (table_after x words 0 t) ≡ (change x (maps_of t)).one
   unfolding table_after maps_of
   after-map = rw ok (ap (λ (m : Maps). m.one) steps.all-map)
@@ -79,7 +78,8 @@ module _ (x : Call) (words : ℕ) (t : Words) (s : sound t ≡ true) (ok : refus
       let m : map_of 1 (table_after x words 0 t) ≡ map_of 1 u = after-map ∙ sym (ap (λ (m : Maps). m.one) e) in
       or-right (agrees (map_of 1 t) u) (agrees (map_of 1 (table_after x words 0 t)) u) (rw m (agrees-own u f))
 
-  cut-agrees : (c : ℕ) → (let u = carry (take c (orders_of x 0 t)) t in agrees (map_of 1 t) u || agrees (map_of 1 (table_after x words 0 t)) u ≡ true)
+  cut-agrees : (c : ℕ)
+      → (let u = carry (take c (orders_of x 0 t)) t in agrees (map_of 1 t) u || agrees (map_of 1 (table_after x words 0 t)) u ≡ true)
   cut-agrees c = let (j, e) = part-of c in rw e (one-of (apply (take j (stores_of x t)) t) (steps.part-sound j) (steps.part-map j))
 
   after-sound : sound (table_after x words 0 t) ≡ true
@@ -100,7 +100,8 @@ pub after-call : (x : Call) (words : ℕ) (t : Words) → sound t ≡ true → s
 unfolding table_after
 after-call x words t s = go (refusal x words 0 t) refl (after-sound x words t s)
   where
-    go : (n : ℕ) → refusal x words 0 t ≡ n → (refusal x words 0 t ≡ 0 → sound (table_after x words 0 t) ≡ true) → sound (unless_refused n (apply (stores_of x t) t) t) ≡ true
+    go : (n : ℕ) → refusal x words 0 t ≡ n → (refusal x words 0 t ≡ 0 → sound (table_after x words 0 t) ≡ true)
+        → sound (unless_refused n (apply (stores_of x t) t) t) ≡ true
     go zero e f = rw e at (f e)
     go (suc n) e f = s
 
@@ -116,6 +117,7 @@ script-none-bad (a ∷ s) t f =
     here zero e = e refl
     here (suc n) e = refl
 
+-- the empty table of 4 nodes is sound
 pub start-sound : sound (empty 4) ≡ true
 unfolding empty_of
 start-sound = settled-sound _ (empty-settled 1 4 (inl refl) (omega arith) (omega arith))

@@ -1,9 +1,6 @@
 -- What is counted over all scripts, with the scripts' first parts shared: each action is then met once after each shorter script.
-use mathlib.Core.Path.{◌≡◌, refl, sym, ap, ◌∙◌}
-use mathlib.Core.List.{[], ◌∷◌, ◌++◌, map}
-use Prim.Native.Nat.{ℕ, zero, suc, ◌+◌, ◌*◌, ◌/◌, ◌%◌, ◌<◌}
-use native.Mathlib.Nat.{mul_assoc, suc-mul, zero-add}
-use native.Mathlib.Omega.{arith}
+use Rattle.std.proofs.Common.{◌≡◌, ℕ, zero, suc, ◌+◌, ◌*◌, ◌/◌, ◌%◌, ◌<◌, [], ◌∷◌, ◌++◌, map, sym, refl, ap, ◌∙◌, mul_assoc, suc-mul}
+use Rattle.std.proofs.Common.{zero-add, arith}
 use Rattle.model.specs.Table.{Words, empty}
 use Rattle.model.specs.Writes.{numbers, Call}
 use Rattle.model.specs.Refusals.{unless_refused, refusal, table_after}
@@ -61,7 +58,9 @@ tree (suc m) f = f [] + six (λ (a : ℕ). tree m (λ (s : Script). f (a ∷ s))
 tree-last : (m : ℕ) (f : Script → ℕ) → tree (suc m) f ≡ f [] + tree m (λ (s : Script). six (λ (a : ℕ). f (s ++ (a ∷ []))))
 tree-last zero f = refl
 tree-last (suc m) f =
-    ap (λ (k : ℕ). f [] + k) (ap six (λ i a. tree-last m (λ (s : Script). f (a ∷ s)) i) ∙ six-add (λ (a : ℕ). f (a ∷ [])) (λ (a : ℕ). tree m (λ (s : Script). six (λ (b : ℕ). f (a ∷ (s ++ (b ∷ [])))))))
+    ap (λ (k : ℕ). f [] + k)
+    (ap six (λ i a. tree-last m (λ (s : Script). f (a ∷ s)) i)
+    ∙ six-add (λ (a : ℕ). f (a ∷ [])) (λ (a : ℕ). tree m (λ (s : Script). six (λ (b : ℕ). f (a ∷ (s ++ (b ∷ [])))))))
 
 -- a sum by numbers is one by first actions
 pub over-tree : (m : ℕ) (f : Script → ℕ) → sum_over (λ (n : ℕ). f (unrank m n)) 0 (grown 1 m) ≡ tree m f
@@ -76,8 +75,10 @@ over-tree (suc m) f =
 tree-plus : (m k : ℕ) (f : Script → ℕ) → tree m (λ (s : Script). k + f s) ≡ grown 1 m * k + tree m f
 tree-plus zero k f = omega arith
 tree-plus (suc m) k f =
-    let each : six (λ (a : ℕ). tree m (λ (s : Script). k + f (a ∷ s))) ≡ six (λ (a : ℕ). grown 1 m * k) + six (λ (a : ℕ). tree m (λ (s : Script). f (a ∷ s)))
-    = ap six (λ i a. tree-plus m k (λ (s : Script). f (a ∷ s)) i) ∙ six-add (λ (a : ℕ). grown 1 m * k) (λ (a : ℕ). tree m (λ (s : Script). f (a ∷ s))) in
+    let each : six (λ (a : ℕ). tree m (λ (s : Script). k + f (a ∷ s)))
+    ≡ six (λ (a : ℕ). grown 1 m * k) + six (λ (a : ℕ). tree m (λ (s : Script). f (a ∷ s)))
+    = ap six (λ i a. tree-plus m k (λ (s : Script). f (a ∷ s)) i)
+    ∙ six-add (λ (a : ℕ). grown 1 m * k) (λ (a : ℕ). tree m (λ (s : Script). f (a ∷ s))) in
     let size : grown 1 (suc m) * k ≡ 6 * (grown 1 m * k) + k = rw (grown-suc 1 m, suc-mul (6 * grown 1 m) k, mul_assoc) in
     omega (arith, each, size)
 
@@ -91,7 +92,8 @@ shared count (suc m) t =
     grown 1 m * unless_refused (refusal x 2560 0 t) (count x t) 0 + shared count m (table_after x 2560 0 t))
 
 -- one action, then the scripts that go on from there
-step-along : (count : Call → Words → ℕ) (m : ℕ) (t : Words) (a : ℕ) → ((u : Words) → tree m (λ (s : Script). along count s u) ≡ shared count m u)
+step-along : (count : Call → Words → ℕ) (m : ℕ) (t : Words) (a : ℕ)
+    → ((u : Words) → tree m (λ (s : Script). along count s u) ≡ shared count m u)
     → tree m (λ (s : Script). along count (a ∷ s) t)
     ≡ grown 1 m * unless_refused (refusal (call_of a) 2560 0 t) (count (call_of a) t) 0 + shared count m (table_after (call_of a) 2560 0 t)
 unfolding along

@@ -1,11 +1,7 @@
 -- An action, from what its call answered and left: what it met, and the map after it.
-use mathlib.Core.Path.{◌≡◌, refl, sym, ap, ◌∙◌}
-use mathlib.Core.Bool.{Bool, true, false, cond}
-use mathlib.Core.Logic.{◌≢◌}
-use mathlib.Core.List.{List, [], ◌∷◌, map}
-use Prim.Native.Nat.{ℕ, suc, ◌+◌, ◌-◌, ◌%◌, ◌≤◌}
-use native.Mathlib.Omega.{arith}
-use lib.ListN.{length, take, set, length-map}
+use Rattle.std.proofs.Common.{◌≡◌, ℕ, suc, ◌+◌, ◌-◌, ◌%◌, ◌≤◌, Bool, true, false, cond, ◌≢◌, List, [], ◌∷◌, map, length, take, set, sym}
+use Rattle.std.proofs.Common.{refl, ap, ◌∙◌, arith}
+use lib.ListN.{length-map}
 use Rattle.std.specs.Prelude.{Ok, Err}
 use Rattle.model.specs.declared.Counts.{Counts}
 use Rattle.model.specs.declared.Refusal.{Refusal}
@@ -43,7 +39,8 @@ map-each f g (x ∷ xs) e = rw (e.0, map-each f g xs e.1)
 -- ---- what a call answered
 
 module _ (x : Call) (words : ℕ) (t : Words) where
-  pub done-accepts : (w : Written) (k : Counts) → w ≡ written x words 0 t → w ≡ Ok k → (refusal x words 0 t ≡ 0) × (k.stores + k.flushes ≡ length (orders_of x 0 t))
+  pub done-accepts : (w : Written) (k : Counts) → w ≡ written x words 0 t → w ≡ Ok k → (refusal x words 0 t ≡ 0)
+      × (k.stores + k.flushes ≡ length (orders_of x 0 t))
   unfolding written
   done-accepts w k e d =
       let both = done-ok (refusal x words 0 t) _ (sym e ∙ d) in
@@ -68,17 +65,24 @@ module _ (x : Call) (t : Words) where
 pub among-few : (old new : List Slot) (t l : Words) (n : ℕ) → bad_among old new t l 0 n ≤ n
 unfolding bad_among
 among-few old new t l n =
-    omega (arith, filter-short (is_bad old new) (map (λ (c : ℕ). carried_out c l t) (numbers 0 n)), length-map (numbers 0 n) (λ (c : ℕ). carried_out c l t), numbers-length 0 n)
+    omega (
+      arith,
+      filter-short (is_bad old new) (map (λ (c : ℕ). carried_out c l t) (numbers 0 n)),
+      length-map (numbers 0 n) (λ (c : ℕ). carried_out c l t),
+      numbers-length 0 n,
+    )
 
 -- carry-out of the call's own list
 module _ (x : Call) (lent t : Words) (s : sound t ≡ true) (ok : refusal x (length lent) 0 t ≡ 0) where
   carried-same : (c : ℕ) → c ≤ length (orders_of x 0 t) → carried_out c (list_after x lent 0 t) t ≡ carry (take c (orders_of x 0 t)) t
   unfolding list_after
-  carried-same c h = rw ok (carry-list 0 (stores_of x t) lent t (sound-head t s) (accepted-steps x (length lent) 0 t s ok).stores-inside c h)
+  carried-same c h = rw ok
+      (carry-list 0 (stores_of x t) lent t (sound-head t s) (accepted-steps x (length lent) 0 t s ok).stores-inside c h)
 
   -- its bad tables, as the code counts them
   pub bad-counted : length lent ≡ 2560
-      → bad_among (map_of 1 t) (map_of 1 (table_after x 2560 0 t)) t (list_after x lent 0 t) 0 (suc (length (orders_of x 0 t))) ≡ bad_count x t
+      → bad_among (map_of 1 t) (map_of 1 (table_after x 2560 0 t)) t (list_after x lent 0 t) 0
+      (suc (length (orders_of x 0 t))) ≡ bad_count x t
   unfolding bad_among bad_tables cut_tables
   bad-counted long =
       let cs = numbers 0 (suc (length (orders_of x 0 t))) in
@@ -95,7 +99,8 @@ repaired-map t s = ap (λ (m : Maps). m.one) (call-steps repair t s refl tt).all
 abbrev call_by : Bool → (a : ℕ) → Call
 call_by b a = cond b (insertion 1 (action_key a) (10 + action_key a) 0) (deletion 1 (action_key a))
 
-map-by : (b : Bool) (a : ℕ) (t : Words) (h : Held) → length h ≡ 3 → sound t ≡ true → map_of 1 t ≡ pairs h → refusal (call_by b a) 2560 0 t ≡ 0
+map-by : (b : Bool) (a : ℕ) (t : Words) (h : Held) → length h ≡ 3 → sound t ≡ true → map_of 1 t ≡ pairs h
+    → refusal (call_by b a) 2560 0 t ≡ 0
     → map_of 1 (table_after (call_by b a) 2560 0 t) ≡ pairs (set h (a % 3) b)
 unfolding on_map maps_of
 map-by true a t h l s m ok =
@@ -134,7 +139,8 @@ module _ (a : ℕ) (lent t : Words) (h : Held) (long : length lent ≡ 2560) (s 
         map-is = after;
       }
 
-  pub acts-refused : (w : Written) (k : Refusal) → w ≡ written (call_of a) 2560 0 t → w ≡ Err k → Acts a t (record { tables = 0; bad = 0 }) h
+  pub acts-refused : (w : Written) (k : Refusal) → w ≡ written (call_of a) 2560 0 t → w ≡ Err k
+      → Acts a t (record { tables = 0; bad = 0 }) h
   unfolding table_after
   acts-refused w k e d =
       let (n, r) = refused-not (call_of a) 2560 t w k e d in

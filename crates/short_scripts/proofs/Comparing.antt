@@ -1,9 +1,5 @@
 -- The call of an action and the map after it, from the action that its number gives.
-use mathlib.Core.Path.{◌≡◌, refl}
-use mathlib.Core.Bool.{Bool, true, false, cond}
-use Prim.Native.Nat.{ℕ, ◌+◌, ◌-◌, ◌%◌}
-use native.Mathlib.Omega.{arith}
-use lib.ListN.{set}
+use Rattle.std.proofs.Common.{◌≡◌, ℕ, ◌+◌, ◌-◌, ◌%◌, Bool, true, false, cond, set, refl, arith}
 use Rattle.model.specs.Writes.{insertion, deletion}
 use Rattle.model.specs.Scripts.{inserts, action_key, call_of}
 use Rattle.short_scripts.specs.Held.{Held, changed}

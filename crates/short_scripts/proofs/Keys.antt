@@ -1,16 +1,11 @@
--- The map by its three keys: what is there, what comes next, and what an accepted action makes of it. Most of it holds of any number of keys.
-use mathlib.Core.Path.{◌≡◌, refl, sym, ◌∙◌}
-use mathlib.Core.Bool.{Bool, true, false, cond, ◌&&◌, false≢true}
-use mathlib.Core.Logic.{◌⊎◌, inl, inr, ◌≢◌}
-use mathlib.Core.List.{List, [], ◌∷◌}
+-- The map by its three keys: what is there, what comes next, and what an accepted action makes of it. Most of it holds of any number of
+-- keys.
+use Rattle.std.proofs.Common.{◌≡◌, ℕ, zero, suc, ◌+◌, ◌-◌, ◌%◌, ◌<◌, ◌≤◌, Bool, true, false, cond, ◌&&◌, ltb, ◌≢◌, ◌⊎◌, List, [], ◌∷◌}
+use Rattle.std.proofs.Common.{length, get_or, drop, set, sym, refl, ◌∙◌, inl, inr, add-one, arith, drop_of_length-le, drop-cons, le-ltb}
+use Rattle.std.proofs.Common.{lt-ltb, eq-eqb, ne_eqb}
+use mathlib.Core.Bool.{false≢true}
 use mathlib.Core.Option.{none, some}
-use Prim.Native.Nat.{ℕ, zero, suc, ◌+◌, ◌-◌, ◌%◌, ◌≤◌, ◌<◌}
-use native.Mathlib.Numerals.{add-one}
-use native.Mathlib.Omega.{arith}
-use lib.Dec.{ltb}
-use lib.ListN.{length, drop, get_or, set, drop_of_length-le}
-use lib.Seq.{drop-cons}
-use borrow.Author.Tests.{eqb-false, ne_eqb, eq-eqb, lt-ltb, le-ltb}
+use borrow.Author.Tests.{eqb-false}
 use Rattle.model.specs.declared.Answer.TheVariants.{Found, Absent}
 use Rattle.std.specs.Prelude.{Some, None}
 use Rattle.model.specs.Slots.{Slot, slot, recording_of, class_of, pointer_of}
@@ -30,7 +25,8 @@ within-from [] k j e = absurd (false≢true e)
 within-from (false ∷ h) k j e = let p = within-from h (suc k) j e in (omega (arith, p.0), omega (arith, p.1))
 within-from (true ∷ h) k j e = go (same-or-not k j) (within-from h (suc k) j)
   where
-    go : (k ≡ j) ⊎ (k ≢ j) → (has_key j (pairs_from (suc k) h) ≡ true → (suc k ≤ j) × (j < suc k + length h)) → (k ≤ j) × (j < k + suc (length h))
+    go : (k ≡ j) ⊎ (k ≢ j) → (has_key j (pairs_from (suc k) h) ≡ true → (suc k ≤ j) × (j < suc k + length h)) → (k ≤ j)
+        × (j < k + suc (length h))
     go (inl q) later = (omega (arith, q), omega (arith, q))
     go (inr n) later = let p = later (rw (ne_eqb k j n) at e) in (omega (arith, p.0), omega (arith, p.1))
 
@@ -65,13 +61,15 @@ has-within h k l e = omega (arith, (within-from h 1 k e).1)
 -- ---- the answer
 
 -- where the key is there, and where it is not
-first-from : (h : Held) (k j : ℕ) → has_key j (pairs_from k h) ≡ true → first_with j (pairs_from k h) ≡ some (slot j (pointer_of (10 + j) 0))
+first-from : (h : Held) (k j : ℕ) → has_key j (pairs_from k h) ≡ true → first_with j (pairs_from k h)
+    ≡ some (slot j (pointer_of (10 + j) 0))
 unfolding has_key
 first-from [] k j e = absurd (false≢true e)
 first-from (false ∷ h) k j e = first-from h (suc k) j e
 first-from (true ∷ h) k j e = go (same-or-not k j) (first-from h (suc k) j)
   where
-    go : (k ≡ j) ⊎ (k ≢ j) → (has_key j (pairs_from (suc k) h) ≡ true → first_with j (pairs_from (suc k) h) ≡ some (slot j (pointer_of (10 + j) 0)))
+    go : (k ≡ j) ⊎ (k ≢ j)
+        → (has_key j (pairs_from (suc k) h) ≡ true → first_with j (pairs_from (suc k) h) ≡ some (slot j (pointer_of (10 + j) 0)))
         → first_with j (slot k (pointer_of (10 + k) 0) ∷ pairs_from (suc k) h) ≡ some (slot j (pointer_of (10 + j) 0))
     go (inl q) later = rw q (first-here j (slot j (pointer_of (10 + j) 0)) (pairs_from (suc j) h) refl)
     go (inr n) later = first-past j (slot k (pointer_of (10 + k) 0)) (pairs_from (suc k) h) n ∙ later (rw (ne_eqb k j n) at e)
@@ -95,11 +93,13 @@ absent-answer k ps e = rw (first-none k ps e)
 -- ---- the next one up
 
 -- key k, and those after it
-next-from : (b : Bool) (later : Held) (q k : ℕ) → first_above q (pairs_from k (b ∷ later)) ≡ cond (ltb q k && b) (Some k) (first_above q (pairs_from (suc k) later))
+next-from : (b : Bool) (later : Held) (q k : ℕ) → first_above q (pairs_from k (b ∷ later))
+    ≡ cond (ltb q k && b) (Some k) (first_above q (pairs_from (suc k) later))
 unfolding first_above
 next-from b later q k = go b (ltb q k) refl
   where
-    go : (b t : Bool) → ltb q k ≡ t → first_above q (pairs_from k (b ∷ later)) ≡ cond (t && b) (Some k) (first_above q (pairs_from (suc k) later))
+    go : (b t : Bool) → ltb q k ≡ t → first_above q (pairs_from k (b ∷ later))
+        ≡ cond (t && b) (Some k) (first_above q (pairs_from (suc k) later))
     go true true e = rw (e, first_above)
     go true false e = rw (e, first_above)
     go false true e = refl
@@ -111,7 +111,8 @@ next-held h q zero n f l = absurd (omega (arith, f))
 next-held h q (suc i) n f l =
     let e : suc i - 1 ≡ i = omega arith in
     let g : suc i + 1 - 1 ≡ suc i = omega arith in
-    rw (e, g, add-one (suc i), drop-cons h i false (omega (arith, n, l)), ← (has-at h (suc i) f), e) (next-from (get_or h i false) (drop (suc i) h) q (suc i))
+    rw (e, g, add-one (suc i), drop-cons h i false (omega (arith, n, l)), ← (has-at h (suc i) f), e)
+    (next-from (get_or h i false) (drop (suc i) h) q (suc i))
 
 pub next-none : (h : Held) (q k : ℕ) → length h ≡ 3 → 3 < k → first_above q (pairs_from k (drop (k - 1) h)) ≡ None
 unfolding first_above
@@ -144,9 +145,13 @@ enter-from : (h : Held) (k i j : ℕ) → j ≡ k + i → i < length h → has_k
 unfolding enter has_key
 enter-from [] k i j e l n = absurd (omega (arith, l))
 enter-from (true ∷ h) k zero j e l n = absurd (false≢true (sym n ∙ rw (eq-eqb k j (omega (arith, e)))))
-enter-from (false ∷ h) k zero j e l n = let z : j ≡ k = omega (arith, e) in rw z (enter-below h (suc k) k (pointer_of (10 + k) 0) (omega arith))
+enter-from (false ∷ h) k zero j e l n = let z : j ≡ k =
+    omega (arith, e) in rw z (enter-below h (suc k) k (pointer_of (10 + k) 0) (omega arith))
 enter-from (true ∷ h) k (suc i) j e l n =
-    rw (le-ltb j k (omega (arith, e)), enter-from h (suc k) i j (omega (arith, e)) (omega (arith, l)) (rw (ne_eqb k j (λ q. omega (arith, e, q))) at n))
+    rw (
+      le-ltb j k (omega (arith, e)),
+      enter-from h (suc k) i j (omega (arith, e)) (omega (arith, l)) (rw (ne_eqb k j (λ q. omega (arith, e, q))) at n),
+    )
 enter-from (false ∷ h) k (suc i) j e l n = enter-from h (suc k) i j (omega (arith, e)) (omega (arith, l)) n
 
 pub enter-held : (h : Held) (a : ℕ) → length h ≡ 3 → has_key (action_key a) (pairs h) ≡ false

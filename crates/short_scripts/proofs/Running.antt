@@ -1,19 +1,14 @@
 -- A script run action by action, and the scripts one after the other: what holds in between.
-use mathlib.Core.Path.{◌≡◌, ap, ◌∙◌}
-use mathlib.Core.Bool.{true, false}
-use mathlib.Core.List.{[], map}
-use Prim.Native.Nat.{ℕ, suc, ◌+◌, ◌-◌, ◌*◌, ◌≤◌, ◌<◌}
-use native.Mathlib.Numerals.{add-one}
-use native.Mathlib.Omega.{arith}
-use lib.ListN.{length, drop, get_or, replicate, drop_of_length-le}
-use lib.Seq.{drop-cons}
+use Rattle.std.proofs.Common.{◌≡◌, ℕ, suc, ◌+◌, ◌-◌, ◌*◌, ◌<◌, ◌≤◌, true, false, [], map, length, get_or, drop, replicate, ap, ◌∙◌, add-one}
+use Rattle.std.proofs.Common.{arith, drop_of_length-le, drop-cons}
 use Rattle.model.specs.Lists.{sum}
 use Rattle.model.specs.Table.{Words, empty, empty_of}
 use Rattle.model.specs.Reached.{map_of, Maps, maps_of}
 use Rattle.model.specs.SoundTest.{sound}
 use Rattle.model.specs.Writes.{numbers, Call}
 use Rattle.model.specs.Refusals.{table_after}
-use Rattle.model.specs.Scripts.{Script, call_of, SCRIPTS, script_of, script_words, actions_in, form_script, along, over_all, table_count, bad_count}
+use Rattle.model.specs.Scripts.{Script, call_of, SCRIPTS, script_of, script_words, actions_in, form_script, along, over_all, table_count}
+use Rattle.model.specs.Scripts.{bad_count}
 use Rattle.two_laws.proofs.EmptyTwo.{empty-one-maps}
 use Rattle.short_laws.proofs.Rank.{script-is}
 use Rattle.short_laws.proofs.Calls.{words-form, words-actions}
@@ -60,7 +55,8 @@ module _ {s : Script} {t : Words} {h : Held} {tables bad i : ℕ} (r : Running s
   unfolding along
   onward-next f k = rw (drop-cons s i 0 k, add-one i)
 
-  pub running-next : (m : Met) (g : Held) (u : Words) → i < length s → Acts (get_or s i 0) t m g → u ≡ table_after (call_of (get_or s i 0)) 2560 0 t
+  pub running-next : (m : Met) (g : Held) (u : Words) → i < length s → Acts (get_or s i 0) t m g → u
+      ≡ table_after (call_of (get_or s i 0)) 2560 0 t
       → Running s u g (tables + m.tables) (bad + m.bad) (i + 1)
   running-next m g u k a e = record {
     place = omega arith;
@@ -99,7 +95,8 @@ pub record Totals (tables bad number : ℕ) : Type 0 where
 
 pub totals-start : Totals 0 0 0
 unfolding over_all
-totals-start = record { place = omega arith; tables-few = omega arith; bad-few = omega arith; tables-are = omega arith; bad-are = omega arith }
+totals-start = record
+    { place = omega arith; tables-few = omega arith; bad-few = omega arith; tables-are = omega arith; bad-are = omega arith }
 
 rest-next : (f : Call → Words → ℕ) (n : ℕ) → n < SCRIPTS → rest f n ≡ along f (script_of n) (empty 4) + rest f (n + 1)
 unfolding numbers
@@ -112,7 +109,8 @@ rest-next f n h =
 pub script-runs : (n : ℕ) (ws : Words) → ws ≡ script_words (script_of n) → form_script ws ≡ true
 script-runs n ws e = rw e (words-form (script_of n) (script-is n))
 
-pub totals-next : (tables bad number : ℕ) (ws : Words) (met : Met) → Totals tables bad number → number < SCRIPTS → ws ≡ script_words (script_of number)
+pub totals-next : (tables bad number : ℕ) (ws : Words) (met : Met) → Totals tables bad number → number < SCRIPTS → ws
+    ≡ script_words (script_of number)
     → Runs (actions_in ws) met → Totals (tables + met.tables) (bad + met.bad) (number + 1)
 totals-next tables bad number ws met r h e m =
     let s : actions_in ws ≡ script_of number = ap actions_in e ∙ words-actions (script_of number) in
@@ -124,7 +122,8 @@ totals-next tables bad number ws met r h e m =
       bad-are = omega (arith, r.bad-are, rw s at m.bad-are, rest-next bad_count number h);
     }
 
-pub totals-end : (tables bad number : ℕ) → Totals tables bad number → SCRIPTS ≤ number → (tables ≡ over_all table_count) × (bad ≡ over_all bad_count)
+pub totals-end : (tables bad number : ℕ) → Totals tables bad number → SCRIPTS ≤ number → (tables ≡ over_all table_count)
+    × (bad ≡ over_all bad_count)
 unfolding numbers
 totals-end tables bad number r h =
     let e : SCRIPTS - number ≡ 0 = omega arith in

@@ -1,15 +1,9 @@
 -- A script's words, gone through action by action, and filled in from the last action on.
-use mathlib.Core.Path.{◌≡◌, refl, sym, ap, ◌∙◌}
-use mathlib.Core.Bool.{Bool, true, false}
-use mathlib.Core.List.{[], ◌∷◌, ◌++◌, append_assoc}
-use Prim.Native.Nat.{ℕ, zero, suc, ◌+◌, ◌-◌, ◌*◌, ◌/◌, ◌%◌, ◌≤◌, ◌<◌}
-use native.Mathlib.Numerals.{add-one}
-use native.Mathlib.Omega.{arith}
-use lib.Dec.{leb}
-use lib.ListN.{length, take, drop, get_or, set, replicate, length-set, length-drop, drop_of_length-le}
+use Rattle.std.proofs.Common.{◌≡◌, ℕ, zero, suc, ◌+◌, ◌-◌, ◌*◌, ◌/◌, ◌%◌, ◌<◌, ◌≤◌, Bool, true, false, leb, [], ◌∷◌, ◌++◌, length, get_or}
+use Rattle.std.proofs.Common.{take, drop, set, replicate, sym, refl, ap, ◌∙◌, append_assoc, add-one, arith, length-drop, length-set}
+use Rattle.std.proofs.Common.{drop_of_length-le, take_all, drop-cons, drop-drop, ne_eqb, le-leb}
 use Rattle.std.proofs.lemmas.List.{length-take, drop-set, drop-replicate}
-use lib.Seq.{drop-cons, drop-drop, take_all}
-use borrow.Author.Tests.{le-leb, lt-leb, ne_eqb}
+use borrow.Author.Tests.{lt-leb}
 use Rattle.model.specs.Table.{Words, at, all_zero}
 use Rattle.model.specs.SoundTest.{all}
 use Rattle.model.specs.Scripts.{Script, rank_on, actions_in, unrank, script_of, script_words, form_script}
@@ -28,7 +22,8 @@ zeros-within (zero ∷ ws) = zeros-within ws
 zeros-within (suc w ∷ ws) = rw (lt-leb (suc w) 0 (omega arith), ne_eqb (suc w) 0 (λ e. omega arith))
 
 -- the first of those that are left is not, and the rest are not
-pub within-both : (most : ℕ) (ws : Words) (i : ℕ) → i < length ws → within most (drop i ws) ≡ true → (get_or ws i 0 ≤ most) × (within most (drop (i + 1) ws) ≡ true)
+pub within-both : (most : ℕ) (ws : Words) (i : ℕ) → i < length ws → within most (drop i ws) ≡ true → (get_or ws i 0 ≤ most)
+    × (within most (drop (i + 1) ws) ≡ true)
 unfolding all
 within-both most ws i h e = let n : i + 1 ≡ suc i = add-one i in rw n (simp (and-iff, leb-iff) at (rw (drop-cons ws i 0 h) at e))
 
@@ -39,16 +34,19 @@ pub actions-cut : (ws : Words) (n : ℕ) → take (n + 1 - 1) (drop 1 ws) ≡ ta
 actions-cut ws n = let e : n + 1 - 1 ≡ n = omega arith in rw e
 
 past-cut : (ws : Words) (n m : ℕ) → length ws ≤ n + 1 + m → take m (drop (n + 1) ws) ≡ drop n (drop 1 ws)
-past-cut ws n m h = let e : n + 1 ≡ 1 + n = omega arith in take_all m (drop (n + 1) ws) (omega (arith, length-drop (n + 1) ws)) ∙ rw e (sym (drop-drop n 1 ws))
+past-cut ws n m h = let e : n + 1 ≡ 1 + n =
+    omega arith in take_all m (drop (n + 1) ws) (omega (arith, length-drop (n + 1) ws)) ∙ rw e (sym (drop-drop n 1 ws))
 
 -- what they pass
 module _ (ws : Words) (h : at ws 0 ≤ 4) (a : Bool) (e : a ≡ within 5 (actions_in ws)) where
   six : {t : Bool} → a ≡ t → within 5 (actions_in ws) ≡ t
   six q = sym e ∙ q
 
-  pub form-past : a ≡ true → (m : ℕ) → length ws ≤ at ws 0 + 1 + m → (b : Bool) → b ≡ within 0 (take m (drop (at ws 0 + 1) ws)) → b ≡ form_script ws
+  pub form-past : a ≡ true → (m : ℕ) → length ws ≤ at ws 0 + 1 + m → (b : Bool) → b
+      ≡ within 0 (take m (drop (at ws 0 + 1) ws)) → b ≡ form_script ws
   unfolding form_script
-  form-past q m l b f = rw (le-leb (at ws 0) 4 h, six q) (f ∙ ap (within 0) (past-cut ws (at ws 0) m l) ∙ zeros-within (drop (at ws 0) (drop 1 ws)))
+  form-past q m l b f =
+      rw (le-leb (at ws 0) 4 h, six q) (f ∙ ap (within 0) (past-cut ws (at ws 0) m l) ∙ zeros-within (drop (at ws 0) (drop 1 ws)))
 
   pub form-other : a ≡ false → a ≡ form_script ws
   unfolding form_script
@@ -88,7 +86,8 @@ grown-some (suc i) h = omega (arith, grown-suc 0 i)
 -- one level down
 pub grown-down : (i n : ℕ) → 0 < i → grown 0 i ≤ n → n < grown 1 i → (grown 0 (i - 1) ≤ (n - 1) / 6) × ((n - 1) / 6 < grown 1 (i - 1))
 grown-down zero n h low high = absurd (omega arith)
-grown-down (suc i) n h low high = let e : suc i - 1 ≡ i = omega arith in rw e (omega (arith, low, grown-suc 0 i), omega (arith, low, high, grown-suc 0 i, grown-suc 1 i))
+grown-down (suc i) n h low high = let e : suc i - 1 ≡ i =
+    omega arith in rw e (omega (arith, low, grown-suc 0 i), omega (arith, low, high, grown-suc 0 i, grown-suc 1 i))
 
 abbrev pub filled : (i n : ℕ) → Words → Words
 filled zero n ws = ws
@@ -118,7 +117,8 @@ filled-all (suc i) (suc n) w ws h l =
     ∙ ap (λ (q : Words). w ∷ q) (rw (drop-set ws i (n % 6) (omega arith), add-one i, append_assoc))
 
 -- the script's words
-pub filled-words : (n : ℕ) → n < 1555 → filled (length (script_of n)) n (set (replicate 5 0) 0 (length (script_of n))) ≡ script_words (script_of n)
+pub filled-words : (n : ℕ) → n < 1555 → filled (length (script_of n)) n (set (replicate 5 0) 0 (length (script_of n)))
+    ≡ script_words (script_of n)
 unfolding script_words
 filled-words n h =
     let l = length (script_of n) in

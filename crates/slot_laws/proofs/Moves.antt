@@ -1,9 +1,6 @@
 -- Slots that move one up or one down, store by store: a hidden slot goes through them.
-use mathlib.Core.Path.{◌≡◌, refl, ap, sym, ◌∙◌, subst}
-use mathlib.Core.List.{List, [], ◌∷◌, ◌++◌, append_assoc, append-nil}
-use Prim.Native.Nat.{ℕ, suc, ◌+◌}
-use native.Mathlib.Omega.{arith}
-use lib.ListN.{length, length-append}
+use Rattle.std.proofs.Common.{◌≡◌, ℕ, suc, ◌+◌, List, [], ◌∷◌, ◌++◌, length, sym, refl, ap, ◌∙◌, subst, append_assoc, append-nil, arith}
+use Rattle.std.proofs.Common.{length-append}
 use Rattle.model.specs.Slots.{Slot, slot}
 use Rattle.model.specs.Shifts.{SlotStore, key_to, pointer_to, last_pointer, move_up, move_down}
 use Rattle.list_laws.proofs.Tools.{Each}
@@ -30,7 +27,8 @@ module _ (a : List Slot) (g s : Slot) (r : List Slot) (n : ℕ) (l : length a �
   key-then-pointer = ap (λ (x : List Slot). set_pointer x n s.pointer) (set-key-at a g r n s.key l) ∙ set-pointer-at a _ r n s.pointer l
 
 -- moving b one up leaves a free place in front of it
-pub moved-up : (n : ℕ) (a b : List Slot) (g : Slot) (r : List Slot) → length a ≡ n → do_slot_stores (move_up n b) (a ++ (b ++ g ∷ r)) ≡ a ++ first g b ∷ (b ++ r)
+pub moved-up : (n : ℕ) (a b : List Slot) (g : Slot) (r : List Slot) → length a ≡ n → do_slot_stores (move_up n b) (a ++ (b ++ g ∷ r))
+    ≡ a ++ first g b ∷ (b ++ r)
 unfolding move_up do_all
 moved-up n a [] g r l = refl
 moved-up n a (s ∷ b) g r l =
@@ -53,7 +51,8 @@ module _ (p : ℕ) (xs r : List Slot) (P : List Slot → Type 0)
   gap-after : (a b : List Slot) (s : Slot) (c : ℕ) → (a ++ s ∷ []) ++ b ≡ xs → Used s → P ((a ++ s ∷ []) ++ slot c s.pointer ∷ (b ++ r))
   gap-after a b s c e u = rw (last-snoc p a s) at (gap (a ++ s ∷ []) b c e (rw (last-snoc p a s) u))
 
-  pub move-up-along : (n : ℕ) (a b : List Slot) (g : Slot) → length a ≡ n → a ++ b ≡ xs → Each Used b → P (xs ++ g ∷ r) → Along do_slot_store P (move_up n b) (a ++ (b ++ g ∷ r))
+  pub move-up-along : (n : ℕ) (a b : List Slot) (g : Slot) → length a ≡ n → a ++ b ≡ xs → Each Used b → P (xs ++ g ∷ r)
+      → Along do_slot_store P (move_up n b) (a ++ (b ++ g ∷ r))
   unfolding move_up do_all
   move-up-along n a [] g l e u h = subst (λ (x : List Slot). P (x ++ g ∷ r)) (sym e ∙ append-nil a) h
   move-up-along n a (s ∷ b) g l e u h =
@@ -64,12 +63,17 @@ module _ (p : ℕ) (xs r : List Slot) (P : List Slot → Type 0)
       let ups : List SlotStore = move_up (suc n) b in
       let along : Along do_slot_store P ups (a ++ s ∷ (b ++ g ∷ r)) = rw start (move-up-along (suc n) a' b g l' e' u.1 h) in
       let q1 : do_slot_stores ups (a ++ s ∷ (b ++ g ∷ r)) ≡ a' ++ first g b ∷ (b ++ r) = rw start (moved-up (suc n) a' b g r l') in
-      let s2 : P (set_pointer (do_slot_stores ups (a ++ s ∷ (b ++ g ∷ r))) (suc n) s.pointer) = rw (q1, set-pointer-at a' (first g b) (b ++ r) (suc n) s.pointer l') (gap-after a b s _ e' u.0) in
-      let s3 : P (set_key (set_pointer (do_slot_stores ups (a ++ s ∷ (b ++ g ∷ r))) (suc n) s.pointer) (suc n) s.key) = rw (q1, pointer-then-key a' (first g b) s (b ++ r) (suc n) l') (gap-after a b s s.key e' u.0) in
-      until-append do_slot_store P P P ups (pointer_to (suc n) s.pointer ∷ key_to (suc n) s.key ∷ []) _ along (until-end do_slot_store P P ups _ along, (s2, s3))
+      let s2 : P (set_pointer (do_slot_stores ups (a ++ s ∷ (b ++ g ∷ r))) (suc n) s.pointer) =
+      rw (q1, set-pointer-at a' (first g b) (b ++ r) (suc n) s.pointer l') (gap-after a b s _ e' u.0) in
+      let s3 : P (set_key (set_pointer (do_slot_stores ups (a ++ s ∷ (b ++ g ∷ r))) (suc n) s.pointer) (suc n) s.key) =
+      rw (q1, pointer-then-key a' (first g b) s (b ++ r) (suc n) l') (gap-after a b s s.key e' u.0) in
+      until-append do_slot_store P P P ups (pointer_to (suc n) s.pointer ∷ key_to (suc n) s.key ∷ []) _ along
+      (until-end do_slot_store P P ups _ along, (s2, s3))
 
   -- the last store ends the slots in use there
-  pub move-down-until : (Q : List Slot → Type 0) → ((c : ℕ) → Q (xs ++ slot c 0 ∷ r)) → (n m : ℕ) (a b : List Slot) (c : ℕ) → length a ≡ n → n + length b ≡ m → a ++ b ≡ xs → Each Used b → (last_pointer p a ≡ 0 → ⊥)
+  pub move-down-until :
+      (Q : List Slot → Type 0) → ((c : ℕ) → Q (xs ++ slot c 0 ∷ r)) → (n m : ℕ) (a b : List Slot) (c : ℕ) → length a ≡ n → n + length b ≡ m
+      → a ++ b ≡ xs → Each Used b → (last_pointer p a ≡ 0 → ⊥)
       → Until do_slot_store P Q (move_down n b ++ (pointer_to m 0 ∷ [])) (a ++ slot c (last_pointer p a) ∷ (b ++ r))
   unfolding move_down
   move-down-until Q end n m a [] c l k e u z =
@@ -78,9 +82,12 @@ module _ (p : ℕ) (xs r : List Slot) (P : List Slot → Type 0)
   move-down-until Q end n m a (s ∷ b) c l k e u z =
       let a' : List Slot = a ++ s ∷ [] in
       let e' : a' ++ b ≡ xs = sym (snoc-append a s b) ∙ e in
-      let q1 : set_key (a ++ slot c (last_pointer p a) ∷ (s ∷ b ++ r)) n s.key ≡ a ++ slot s.key (last_pointer p a) ∷ (s ∷ b ++ r) = set-key-at a _ (s ∷ b ++ r) n s.key l in
-      let q2 : set_pointer (set_key (a ++ slot c (last_pointer p a) ∷ (s ∷ b ++ r)) n s.key) n s.pointer ≡ a' ++ slot s.key (last_pointer p a') ∷ (b ++ r) =
-      key-then-pointer a (slot c (last_pointer p a)) s (s ∷ b ++ r) n l ∙ snoc-append a s (s ∷ (b ++ r)) ∙ ap (λ (x : ℕ). a' ++ slot s.key x ∷ (b ++ r)) (sym (last-snoc p a s)) in (
+      let q1 : set_key (a ++ slot c (last_pointer p a) ∷ (s ∷ b ++ r)) n s.key ≡ a ++ slot s.key (last_pointer p a) ∷ (s ∷ b ++ r) =
+      set-key-at a _ (s ∷ b ++ r) n s.key l in
+      let q2 : set_pointer (set_key (a ++ slot c (last_pointer p a) ∷ (s ∷ b ++ r)) n s.key) n s.pointer ≡ a'
+      ++ slot s.key (last_pointer p a') ∷ (b ++ r) =
+      key-then-pointer a (slot c (last_pointer p a)) s (s ∷ b ++ r) n l ∙ snoc-append a s (s ∷ (b ++ r))
+      ∙ ap (λ (x : ℕ). a' ++ slot s.key x ∷ (b ++ r)) (sym (last-snoc p a s)) in (
         gap a (s ∷ b) c e z,
         (
           rw q1 (gap a (s ∷ b) s.key e z),

@@ -1,27 +1,27 @@
 -- What a store to a slot does to the slots of a node: at its place, to their number, and to pointers that are 0.
-use mathlib.Core.Path.{◌≡◌, refl, ap, ◌∙◌}
-use mathlib.Core.List.{List, [], ◌∷◌, ◌++◌}
-use Prim.Native.Nat.{ℕ, zero, suc, ◌<◌}
-use native.Mathlib.Omega.{arith}
-use lib.ListN.{length, get_or}
+use Rattle.std.proofs.Common.{◌≡◌, ℕ, zero, suc, ◌<◌, List, [], ◌∷◌, ◌++◌, length, get_or, refl, ap, ◌∙◌, arith}
 use Rattle.model.specs.Slots.{Slot, slot}
 use Rattle.model.specs.Shifts.{SlotStore, key_to, pointer_to}
 use Rattle.list_laws.proofs.Steps.{do_all}
 
+-- the slots with key x in slot i
 unfoldable pub set_key : List Slot → ℕ → ℕ → List Slot
 set_key [] i x = []
 set_key (s ∷ ss) zero x = slot x s.pointer ∷ ss
 set_key (s ∷ ss) (suc i) x = s ∷ set_key ss i x
 
+-- the slots with pointer x in slot i
 unfoldable pub set_pointer : List Slot → ℕ → ℕ → List Slot
 set_pointer [] i x = []
 set_pointer (s ∷ ss) zero x = slot s.key x ∷ ss
 set_pointer (s ∷ ss) (suc i) x = s ∷ set_pointer ss i x
 
+-- the slots after a store to one of them
 abbrev pub do_slot_store : SlotStore → List Slot → List Slot
 do_slot_store (key_to i x) ss = set_key ss i x
 do_slot_store (pointer_to i x) ss = set_pointer ss i x
 
+-- the slots after stores, one after another
 abbrev pub do_slot_stores : List SlotStore → List Slot → List Slot
 do_slot_stores qs ss = do_all do_slot_store qs ss
 
@@ -30,6 +30,7 @@ abbrev pub place : SlotStore → ℕ
 place (key_to i x) = i
 place (pointer_to i x) = i
 
+-- the pointer of slot i; 0 past the end
 abbrev pub pointer_at : List Slot → ℕ → ℕ
 pointer_at ss i = (get_or ss i (slot 0 0)).pointer
 
@@ -42,7 +43,9 @@ set-key-at [] s r (suc n) x e = absurd (omega arith)
 set-key-at (y ∷ a) s r zero x e = absurd (omega arith)
 set-key-at (y ∷ a) s r (suc n) x e = ap (λ (l : List Slot). y ∷ l) (set-key-at a s r n x (omega arith))
 
-pub set-pointer-at : (a : List Slot) (s : Slot) (r : List Slot) (n x : ℕ) → length a ≡ n → set_pointer (a ++ s ∷ r) n x ≡ a ++ slot s.key x ∷ r
+-- a pointer stored in slot n changes the slot that has n before it, and no other
+pub set-pointer-at :
+    (a : List Slot) (s : Slot) (r : List Slot) (n x : ℕ) → length a ≡ n → set_pointer (a ++ s ∷ r) n x ≡ a ++ slot s.key x ∷ r
 unfolding set_pointer
 set-pointer-at [] s r zero x e = refl
 set-pointer-at [] s r (suc n) x e = absurd (omega arith)
@@ -58,6 +61,7 @@ set-pointer-front (s ∷ a) r (suc n) x h = ap (λ (l : List Slot). s ∷ l) (se
 
 -- ---- a pointer that is 0 stays 0 under all stores but one of another number to it
 
+-- the store puts no pointer but 0 in slot m
 abbrev pub KeepsZero : ℕ → SlotStore → Type 0
 KeepsZero m (key_to i x) = Unit {0}
 KeepsZero m (pointer_to i x) = i ≡ m → x ≡ 0
@@ -78,6 +82,7 @@ zero-pointer (suc m) (s ∷ ss) zero x k h = h
 zero-pointer zero (s ∷ ss) (suc i) x k h = h
 zero-pointer (suc m) (s ∷ ss) (suc i) x k h = zero-pointer m ss i x (λ e. k (ap suc e)) h
 
+-- a store that puts no pointer but 0 in slot m keeps its pointer 0
 pub keeps-zero : (m : ℕ) (q : SlotStore) (ss : List Slot) → KeepsZero m q → pointer_at ss m ≡ 0 → pointer_at (do_slot_store q ss) m ≡ 0
 keeps-zero m (key_to i x) ss k h = zero-key m ss i x ∙ h
 keeps-zero m (pointer_to i x) ss k h = zero-pointer m ss i x k h

@@ -1,17 +1,9 @@
 -- The way down, the slot of a key, the kept slots and the ways, one slot in use more.
-use mathlib.Core.Path.{◌≡◌, refl, ap, sym, ◌∙◌}
-use mathlib.Core.Bool.{Bool, true, false, cond}
-use mathlib.Core.List.{List, [], ◌∷◌, ◌++◌, append_assoc, append-nil}
-use Prim.Native.Nat.{ℕ, zero, suc, ◌+◌, ◌-◌, ◌<◌, ◌≤◌}
-use native.Mathlib.Numerals.{add-one}
-use native.Mathlib.Nat.{add-zero, zero-add}
-use native.Mathlib.Omega.{arith}
-use lib.Dec.{eqb, leb}
-use lib.ListN.{length, get_or, set, replicate}
-use lib.Seq.{get_or-set_same, get_or-set_other}
-use borrow.Author.Tests.{eqb-true, eqb-false, eq-eqb, ne_eqb}
-use Rattle.std.specs.Prelude.{unwrap_or, Some, None}
-use Rattle.std.proofs.Math.Option.{Option, none, some}
+use Rattle.std.proofs.Common.{◌≡◌, ℕ, zero, suc, ◌+◌, ◌-◌, ◌<◌, ◌≤◌, Bool, true, false, cond, eqb, leb, List, [], ◌∷◌, ◌++◌, length, get_or}
+use Rattle.std.proofs.Common.{set, replicate, sym, refl, ap, ◌∙◌, append_assoc, append-nil, add-zero, zero-add, add-one, arith}
+use Rattle.std.proofs.Common.{get_or-set_other, get_or-set_same, eq-eqb, ne_eqb, eqb-true}
+use borrow.Author.Tests.{eqb-false}
+use Rattle.std.specs.Prelude.{Some, None}
 use Rattle.model.specs.Table.{Words}
 use Rattle.model.specs.Slots.{Slot, slot, shown}
 use Rattle.model.specs.Search.{route, first_with, first_above}
@@ -21,7 +13,7 @@ use Rattle.list_laws.proofs.Members.{mem-each}
 use Rattle.list_laws.proofs.Filters.{filter-all}
 use Rattle.slots.specs.declared.Seen.{Seen}
 use Rattle.slots.specs.declared.ways.Ways.{Ways}
-use Rattle.slots.specs.Held.{pointer_in, held_by}
+use Rattle.slots.specs.Held.{pointer_in}
 use Rattle.slots.specs.Scan.{keeps, is_kept, kept_of, is_way, way_after, held_after}
 use Rattle.slots.specs.Gathered.{span, ways_from}
 use Rattle.slots.proofs.Scans.{shown-hide, shown-show, picked}
@@ -40,17 +32,13 @@ way-more key way before k p w ss h = go (eqb p before) (leb k key) refl refl h
     s : Slot
     s = slot k p
 
-    go : (a b : Bool) → eqb p before ≡ a → leb k key ≡ b → w ≡ cond a way (cond b p way) → route key way (shown before (s ∷ ss)) ≡ route key w (shown p ss)
+    go : (a b : Bool) → eqb p before ≡ a → leb k key ≡ b → w ≡ cond a way (cond b p way) → route key way (shown before (s ∷ ss))
+        ≡ route key w (shown p ss)
     go true b e q h = rw (h, shown-hide before s ss (eqb-true p before e))
     go false true e q h = rw (h, shown-show before s ss (eqb-false p before e)) (rw (q, route))
     go false false e q h = rw (h, shown-show before s ss (eqb-false p before e)) (rw (q, route))
 
 -- ---- the slot of a key
-
--- as its pointer, 0 for none
-pub found-pointer : (s : Option Slot) → unwrap_or (held_by s) 0 ≡ pointer_in s
-found-pointer none = refl
-found-pointer (some s) = refl
 
 -- ---- what shown slots tell of a key, after the way and the pointer so far
 
@@ -77,7 +65,8 @@ pointer-more key held before k p h ss z e = go (eqb p before) (eqb k key) (eqb h
         → pointer_or held (pointer_in (first_with key (shown before (s ∷ ss)))) ≡ pointer_or h (pointer_in (first_with key (shown p ss)))
     go true b c e q o u = rw (u, shown-hide before s ss (eqb-true p before e))
     go false false c e q o u = rw (u, shown-show before s ss (eqb-false p before e), first-past key s (shown p ss) (eqb-false k key q))
-    go false true true e q o u = rw (u, shown-show before s ss (eqb-false p before e), first-here key s (shown p ss) (eqb-true k key q), o, ne_eqb p 0 z)
+    go false true true e q o u =
+        rw (u, shown-show before s ss (eqb-false p before e), first-here key s (shown p ss) (eqb-true k key q), o, ne_eqb p 0 z)
     go false true false e q o u = rw (u, o)
 
 abbrev pub seen_after : (key way held : ℕ) → List Slot → Seen
@@ -86,7 +75,8 @@ seen_after key way held ss = record { way = route key way ss; held = pointer_or 
 pub seen-none : (key way held before : ℕ) → seen_after key way held (shown before []) ≡ record { way = way; held = held }
 seen-none key way held before = rw (way-none key way before, pointer-none key held before)
 
-pub seen-more : (key way held before k p w h : ℕ) (ss : List Slot) → (p ≡ 0 → ⊥) → w ≡ way_after way before k p key → h ≡ held_after held before k p key
+pub seen-more : (key way held before k p w h : ℕ) (ss : List Slot) → (p ≡ 0 → ⊥) → w ≡ way_after way before k p key → h
+    ≡ held_after held before k p key
     → seen_after key way held (shown before (slot k p ∷ ss)) ≡ seen_after key w h (shown p ss)
 seen-more key way held before k p w h ss z e f = rw (way-more key way before k p w ss e, pointer-more key held before k p h ss z f)
 
@@ -101,14 +91,17 @@ pub all-kept : (b : ℕ) (ss : List Slot) → kept_of 0 b ss ≡ ss
 all-kept b ss = filter-all (is_kept 0 b) ss (mem-each (λ (s : Slot). is_kept 0 b s ≡ true) ss (λ s m. sym (keeps-all 0 b s.key refl)))
 
 module _ (s b before k p : ℕ) where
-  pub kept-more : (ss : List Slot) → kept_of s b (shown before (slot k p ∷ ss)) ≡ cond (is_way s b before k p) (slot k p ∷ kept_of s b (shown p ss)) (kept_of s b (shown p ss))
+  pub kept-more : (ss : List Slot) → kept_of s b (shown before (slot k p ∷ ss))
+      ≡ cond (is_way s b before k p) (slot k p ∷ kept_of s b (shown p ss)) (kept_of s b (shown p ss))
   unfolding is_way
   kept-more ss = picked (is_kept s b) before (slot k p) ss
 
   module _ (ss : List Slot) {w : Bool} (e : w ≡ is_way s b before k p) where
+    -- a first slot that is shown and kept comes first, before what is kept of those after it
     pub kept-taken : w ≡ true → kept_of s b (shown before (slot k p ∷ ss)) ≡ slot k p ∷ kept_of s b (shown p ss)
     kept-taken h = rw (kept-more ss, ← e, h)
 
+    -- a first slot that is hidden or not kept is passed over
     pub kept-passed : w ≡ false → kept_of s b (shown before (slot k p ∷ ss)) ≡ kept_of s b (shown p ss)
     kept-passed h = rw (kept-more ss, ← e, h)
 
@@ -126,7 +119,8 @@ module _ (key s b before k p : ℕ) (ss : List Slot) (w : Bool) (e : w ≡ is_wa
   pub above-found : w ≡ true → key < k → first_above key (kept_of s b (shown before (slot k p ∷ ss))) ≡ Some k
   above-found h l = ap (first_above key) (rw (kept-more s b before k p ss, ← e, h)) ∙ above-here key (slot k p) (kept_of s b (shown p ss)) l
 
-  pub above-low : w ≡ true → k ≤ key → first_above key (kept_of s b (shown before (slot k p ∷ ss))) ≡ first_above key (kept_of s b (shown p ss))
+  pub above-low : w ≡ true → k ≤ key → first_above key (kept_of s b (shown before (slot k p ∷ ss)))
+      ≡ first_above key (kept_of s b (shown p ss))
   above-low h l = ap (first_above key) (rw (kept-more s b before k p ss, ← e, h)) ∙ above-past key (slot k p) (kept_of s b (shown p ss)) l
 
   pub above-no-way : w ≡ false → first_above key (kept_of s b (shown before (slot k p ∷ ss))) ≡ first_above key (kept_of s b (shown p ss))
@@ -146,10 +140,15 @@ span-before : (ks ps : Words) (i m a k p : ℕ) → i + m ≤ a → span (set ks
 unfolding span
 span-before ks ps i zero a k p h = refl
 span-before ks ps i (suc m) a k p h =
-    rw (get_or-set_other ks a i k 0 (λ z. omega arith), get_or-set_other ps a i p 0 (λ z. omega arith), span-before ks ps (suc i) m a k p (omega arith))
+    rw (
+      get_or-set_other ks a i k 0 (λ z. omega arith),
+      get_or-set_other ps a i p 0 (λ z. omega arith),
+      span-before ks ps (suc i) m a k p (omega arith),
+    )
 
 -- one way more
-span-more : (ks ps : Words) (a k p : ℕ) → a < length ks → a < length ps → span (set ks a k) (set ps a p) 0 (a + 1) ≡ span ks ps 0 a ++ slot k p ∷ []
+span-more : (ks ps : Words) (a k p : ℕ) → a < length ks → a < length ps → span (set ks a k) (set ps a p) 0 (a + 1)
+    ≡ span ks ps 0 a ++ slot k p ∷ []
 span-more ks ps a k p h g =
     let us = set ks a k in
     let qs = set ps a p in
@@ -174,6 +173,7 @@ pub ways-end : (w : Ways) (i : ℕ) → w.count ≤ i → ways_from w i ≡ []
 unfolding ways_from span
 ways-end w i h = let z : w.count - i ≡ 0 = omega arith in ap (span w.keys w.pointers i) z
 
+-- the ways from i on are way i, then those from i + 1 on
 pub ways-next : (w : Ways) (i : ℕ) → i < w.count → ways_from w i ≡ slot (get_or w.keys i 0) (get_or w.pointers i 0) ∷ ways_from w (i + 1)
 unfolding ways_from span
 ways-next w i h =

@@ -1,11 +1,12 @@
 -- What an iterator over shown slots has left, one slot more; and what its chains come to.
-use Rattle.std.proofs.Common.{◌≡◌, ℕ, ◌-◌, ◌*◌, ◌<◌, ◌≤◌, Bool, true, false, List, [], ◌∷◌, length, take, drop, refl, ap, sym, ◌∙◌, arith}
+use Rattle.std.proofs.Common.{◌≡◌, ℕ, ◌-◌, ◌*◌, ◌<◌, ◌≤◌, Bool, true, false, List, [], ◌∷◌, length, take, drop, sym, refl, ap, ◌∙◌, arith}
+use Rattle.std.proofs.Common.{eqb-true}
 use Rattle.std.proofs.Math.Dec.{eqb}
 use Rattle.std.proofs.lemmas.List.{take_rest}
 use Rattle.std.specs.Prelude.{Option, Some, None}
 use Rattle.std.specs.List.{find}
 use Rattle.std.specs.Option.{option_map}
-use borrow.Author.Tests.{eqb-true, eqb-false}
+use borrow.Author.Tests.{eqb-false}
 use Rattle.model.specs.Table.{Words, at}
 use Rattle.model.specs.Slots.{Slot, slot, slots_of, in_use, shown}
 use Rattle.model.specs.Search.{first_with}
@@ -67,12 +68,14 @@ shown-half before ws = omega (arith, shown-fewer before (used_from ws 0), in-use
 
 -- ---- the chains
 
-first-found : (k : ℕ) (ss : List Slot) → held_by (first_with k ss) ≡ option_map (λ (s : Slot). s.pointer) (find (λ (s : Slot). eqb s.key k) ss)
+first-found : (k : ℕ) (ss : List Slot) → held_by (first_with k ss)
+    ≡ option_map (λ (s : Slot). s.pointer) (find (λ (s : Slot). eqb s.key k) ss)
 unfolding first_with
 first-found k [] = refl
 first-found k (s ∷ ss) = go (eqb s.key k) refl (first-found k ss)
   where
-    go : (b : Bool) → eqb s.key k ≡ b → held_by (first_with k ss) ≡ option_map (λ (s : Slot). s.pointer) (find (λ (s : Slot). eqb s.key k) ss)
+    go : (b : Bool) → eqb s.key k ≡ b → held_by (first_with k ss)
+        ≡ option_map (λ (s : Slot). s.pointer) (find (λ (s : Slot). eqb s.key k) ss)
         → held_by (first_with k (s ∷ ss)) ≡ option_map (λ (s : Slot). s.pointer) (find (λ (s : Slot). eqb s.key k) (s ∷ ss))
     go true e ih = rw (first-here k s ss (eqb-true s.key k e), e)
     go false e ih = rw (first-past k s ss (eqb-false s.key k e), e) ih

@@ -1,12 +1,8 @@
 -- The survey of a node's slots: its tests and steps as their code meets them, and what it comes to.
-use mathlib.Core.Path.{◌≡◌, refl, ap, sym, ◌∙◌}
-use mathlib.Core.Bool.{Bool, true, false, cond, not, ◌&&◌, ◌||◌, and-true, or-false}
-use mathlib.Core.List.{List, [], ◌∷◌}
-use Prim.Native.Nat.{ℕ, suc, ◌+◌, ◌≤◌}
-use native.Mathlib.Omega.{arith}
-use lib.Dec.{leb, eqb}
-use lib.ListN.{length}
-use borrow.Author.Tests.{eqb-true, eqb-false, eq-eqb, ne_eqb}
+use Rattle.std.proofs.Common.{◌≡◌, ℕ, suc, ◌+◌, ◌≤◌, Bool, true, false, cond, not, ◌&&◌, ◌||◌, eqb, leb, List, [], ◌∷◌, length, sym, refl}
+use Rattle.std.proofs.Common.{ap, ◌∙◌, arith, eq-eqb, ne_eqb, eqb-true}
+use mathlib.Core.Bool.{and-true, or-false}
+use borrow.Author.Tests.{eqb-false}
 use Rattle.model.specs.declared.Node.{Node}
 use Rattle.model.specs.Slots.{Slot, slot, shown, hidden_slots}
 use Rattle.model.specs.Reached.{filter}
@@ -31,11 +27,13 @@ survey-begun x e q = rw q
 module _ (sibling e k p : ℕ) (s : Survey) where
   pub survey-hiding : p ≡ s.before → hiding p s ≡ surveyed_slot sibling e k p s
   unfolding surveyed_slot
-  survey-hiding h = ap (λ (b : Bool). cond b (hiding p s) (cond (keeps sibling e k) (keeping k p s) (trailed p s))) (sym (eq-eqb p s.before h))
+  survey-hiding h = ap (λ (b : Bool). cond b (hiding p s) (cond (keeps sibling e k) (keeping k p s) (trailed p s)))
+      (sym (eq-eqb p s.before h))
 
   survey-shown : (p ≡ s.before → ⊥) → cond (keeps sibling e k) (keeping k p s) (trailed p s) ≡ surveyed_slot sibling e k p s
   unfolding surveyed_slot
-  survey-shown h = ap (λ (b : Bool). cond b (hiding p s) (cond (keeps sibling e k) (keeping k p s) (trailed p s))) (sym (ne_eqb p s.before h))
+  survey-shown h = ap (λ (b : Bool). cond b (hiding p s) (cond (keeps sibling e k) (keeping k p s) (trailed p s)))
+      (sym (ne_eqb p s.before h))
 
   pub survey-trailing : (p ≡ s.before → ⊥) → keeps sibling e k ≡ false → trailed p s ≡ surveyed_slot sibling e k p s
   survey-trailing h c = ap (λ (b : Bool). cond b (keeping k p s) (trailed p s)) (sym c) ∙ survey-shown h
@@ -51,7 +49,8 @@ module _ (sibling e k p : ℕ) (s : Survey) where
   unfolding surveyed
   survey-none = refl
 
-  pub survey-more : (r : Survey) (ss : List Slot) → r ≡ surveyed_slot sibling e k p s → surveyed sibling e (slot k p ∷ ss) s ≡ surveyed sibling e ss r
+  pub survey-more : (r : Survey) (ss : List Slot) → r ≡ surveyed_slot sibling e k p s → surveyed sibling e (slot k p ∷ ss) s
+      ≡ surveyed sibling e ss r
   unfolding surveyed
   survey-more r ss q = ap (surveyed sibling e ss) (sym q)
 
@@ -115,10 +114,16 @@ module _ (sibling e : ℕ) where
   after-hiding : (s r : Survey) (p h : ℕ) (sh : List Slot) → Surveyed (hiding p s) r h sh → Surveyed s r (suc h) sh
   after-hiding s r p h sh g = record { hidden-is = omega (arith, g.hidden-is); trailing-is = g.trailing-is; fair-is = g.fair-is }
 
-  after-trailing : (s r : Survey) (x : Slot) (p h : ℕ) (sh : List Slot) → kept x ≡ false → Surveyed (trailed p s) r h sh → Surveyed s r h (x ∷ sh)
+  after-trailing : (s r : Survey) (x : Slot) (p h : ℕ) (sh : List Slot) → kept x ≡ false → Surveyed (trailed p s) r h sh
+      → Surveyed s r h (x ∷ sh)
   unfolding all
   after-trailing s r x p h sh c g =
-      record { hidden-is = g.hidden-is; trailing-is = g.trailing-is ∙ late s.trailing (kept x) c; fair-is = g.fair-is ∙ fair s.trailing (kept x) c }
+      record {
+        hidden-is = g.hidden-is;
+        trailing-is = g.trailing-is ∙ late s.trailing (kept x) c;
+        fair-is = g.fair-is
+            ∙ fair s.trailing (kept x) c;
+      }
     where
       late : (t b : Bool) → b ≡ false → true ≡ (t || not (b && all kept sh))
       late true b n = refl
@@ -126,7 +131,8 @@ module _ (sibling e : ℕ) where
 
       fair : (t b : Bool) → b ≡ false
           → (s.fair && (rising (lowest s.low) (filter kept sh) && all (λ (y : Slot). not (kept y)) sh))
-          ≡ (s.fair && (rising (lowest s.low) (filter kept (x ∷ sh)) && cond t (not b && all (λ (y : Slot). not (kept y)) sh) (come_first kept (x ∷ sh))))
+          ≡ (s.fair && (rising (lowest s.low) (filter kept (x ∷ sh)) && cond t (not b && all (λ (y : Slot). not (kept y)) sh)
+          (come_first kept (x ∷ sh))))
       fair true b n = rw (filter-no kept x sh c, n)
       fair false b n = rw (filter-no kept x sh c, first-no kept x sh c)
 
@@ -134,10 +140,15 @@ module _ (sibling e : ℕ) where
   unfolding rising
   rising-more low x ss = refl
 
-  after-keeping : (s r : Survey) (x : Slot) (h : ℕ) (sh : List Slot) → kept x ≡ true → Surveyed (keeping x.key x.pointer s) r h sh → Surveyed s r h (x ∷ sh)
+  after-keeping : (s r : Survey) (x : Slot) (h : ℕ) (sh : List Slot) → kept x ≡ true → Surveyed (keeping x.key x.pointer s) r h sh
+      → Surveyed s r h (x ∷ sh)
   unfolding all still_fair
   after-keeping s r x h sh c g =
-      record { hidden-is = g.hidden-is; trailing-is = g.trailing-is ∙ ap (λ (b : Bool). s.trailing || not (b && all kept sh)) (sym c); fair-is = g.fair-is ∙ fair }
+      record {
+        hidden-is = g.hidden-is;
+        trailing-is = g.trailing-is ∙ ap (λ (b : Bool). s.trailing || not (b && all kept sh)) (sym c);
+        fair-is = g.fair-is ∙ fair;
+      }
     where
       turn : (f t b a k : Bool) (z : Bool) → ((f && (not t && b)) && (a && cond t z k)) ≡ (f && ((b && a) && cond t false k))
       turn false t b a k z = refl
@@ -147,15 +158,19 @@ module _ (sibling e : ℕ) where
       turn true false true a k z = refl
       turn true false false a k z = refl
 
-      fair : ((s.fair && (not s.trailing && reaches s.low x.key)) && (rising (suc x.key) (filter kept sh) && cond s.trailing (all (λ (y : Slot). not (kept y)) sh) (come_first kept sh)))
-          ≡ (s.fair && (rising (lowest s.low) (filter kept (x ∷ sh)) && cond s.trailing (not (kept x) && all (λ (y : Slot). not (kept y)) sh) (come_first kept (x ∷ sh))))
+      fair : ((s.fair && (not s.trailing && reaches s.low x.key)) &&
+          (rising (suc x.key) (filter kept sh) && cond s.trailing (all (λ (y : Slot). not (kept y)) sh) (come_first kept sh)))
+          ≡ (s.fair && (rising (lowest s.low) (filter kept (x ∷ sh)) && cond s.trailing
+          (not (kept x) && all (λ (y : Slot). not (kept y)) sh) (come_first kept (x ∷ sh))))
       fair =
-          turn s.fair s.trailing (reaches s.low x.key) (rising (suc x.key) (filter kept sh)) (come_first kept sh) (all (λ (y : Slot). not (kept y)) sh)
+          turn s.fair s.trailing (reaches s.low x.key) (rising (suc x.key) (filter kept sh)) (come_first kept sh)
+          (all (λ (y : Slot). not (kept y)) sh)
           ∙ rw (filter-yes kept x sh c, first-yes kept x sh c, c, rising-more (lowest s.low) x (filter kept sh), reaches-lowest s.low x.key)
 
   abbrev Means : List Slot → Survey → Type 0
   Means ss s = Surveyed s (surveyed sibling e ss s) (length (hidden_slots s.before ss)) (shown s.before ss)
 
+  -- a survey that goes on over ss counts its hidden slots and judges its shown ones as the definitions do
   pub survey-means : (ss : List Slot) (s : Survey) → Means ss s
   unfolding surveyed
   survey-means [] s = unfold shown in unfold hidden_slots in none s

@@ -1,13 +1,8 @@
 -- Laws of the check of a node and of a slot, as their code meets them.
-use mathlib.Core.Path.{◌≡◌, refl, ap, sym, ◌∙◌}
-use mathlib.Core.Bool.{Bool, true, false, cond, ◌&&◌, and-false}
-use mathlib.Core.List.{List, [], ◌∷◌}
-use Prim.Native.Nat.{ℕ, zero, suc, ◌+◌, ◌-◌, ◌≤◌, ◌<◌}
-use native.Mathlib.Omega.{arith}
-use native.Mathlib.Numerals.{add-one}
-use lib.Dec.{eqb, ltb, leb}
-use lib.ListN.{get_or}
-use borrow.Author.Tests.{eq-eqb, ne_eqb, le-leb, lt-leb}
+use Rattle.std.proofs.Common.{◌≡◌, ℕ, zero, suc, ◌+◌, ◌-◌, ◌<◌, ◌≤◌, Bool, true, false, cond, ◌&&◌, eqb, ltb, leb, List, [], ◌∷◌, get_or}
+use Rattle.std.proofs.Common.{sym, refl, ap, ◌∙◌, add-one, arith, eq-eqb, ne_eqb, le-leb}
+use mathlib.Core.Bool.{and-false}
+use borrow.Author.Tests.{lt-leb}
 use Rattle.std.specs.Prelude.{None, Some}
 use Rattle.std.proofs.lemmas.Option.{none-some, cond_some}
 use Rattle.model.specs.declared.Unfinished.{Unfinished}
@@ -46,12 +41,14 @@ refused v (suc d) x s e =
     check-fold v (suc d) x s ∙ ap (fold (visit v) (flat (visits v d) (visits_below v d x.node))) e
     ∙ fold-unsound v (flat (visits v d) (visits_below v d x.node))
 
-check-leaf : (v : View) (x : Visit) (c : ℕ) (u : Unfinished) → fits v x ≡ true → c < v.nodes → check v 0 x (tally c u) ≡ tally (suc c) (together u (met v x))
+check-leaf : (v : View) (x : Visit) (c : ℕ) (u : Unfinished) → fits v x ≡ true → c < v.nodes → check v 0 x (tally c u)
+    ≡ tally (suc c) (together u (met v x))
 unfolding check
 check-leaf v x c u e l = visit-yes v x c u e l
 
 check-inner : (v : View) (d : ℕ) (x : Visit) (c : ℕ) (u : Unfinished) → fits v x ≡ true → c < v.nodes
-    → check v (suc d) x (tally c u) ≡ fold (check v d) (visits_of v x.node d (ways v x.node) (next_child v x.node)) (tally (suc c) (together u (met v x)))
+    → check v (suc d) x (tally c u)
+    ≡ fold (check v d) (visits_of v x.node d (ways v x.node) (next_child v x.node)) (tally (suc c) (together u (met v x)))
 unfolding check visits_below
 check-inner v d x c u e l = ap (fold (check v d) (visits_below v d x.node)) (visit-yes v x c u e l)
 
@@ -86,7 +83,8 @@ pub record Met (v : View) (n l k r : ℕ) (s : Visited) (w : Unfinished) : Type 
   pub all : w ≡ together s.unfinished (met v (standing n l k r))
 
 -- N as it was read, the node's standing, what is unfinished in it, all that is
-pub node-met : (v : View) (n l k r : ℕ) (s : Visited) (m : ℕ) (b : Bool) (x w : Unfinished) → m ≡ v.nodes → s.count < m → b ≡ stands v (standing n l k r) → b ≡ true
+pub node-met : (v : View) (n l k r : ℕ) (s : Visited) (m : ℕ) (b : Bool) (x w : Unfinished) → m ≡ v.nodes → s.count < m → b
+    ≡ stands v (standing n l k r) → b ≡ true
     → Some x ≡ look_of v n → w ≡ together s.unfinished x → Met v n l k r s w
 unfolding fits look_of met
 node-met v n l k r s m b x w q h st p look all =
@@ -107,24 +105,28 @@ module _ {v : View} {n l k r : ℕ} {s : Visited} {w : Unfinished} (m : Met v n 
   pub node-leaf : l ≡ 0 → tally (s.count + 1) w ≡ check v l visited (Some s)
   node-leaf z = after ∙ sym (ap (λ (d : ℕ). check v d visited (Some s)) z ∙ check-leaf v visited s.count s.unfinished m.fit m.few)
 
-  pub node-inner : (l ≡ 0 → ⊥) → fold (check v (l - 1)) (visits_of v n (l - 1) (ways v n) (next_child v n)) (tally (s.count + 1) w) ≡ check v l visited (Some s)
+  pub node-inner : (l ≡ 0 → ⊥) → fold (check v (l - 1)) (visits_of v n (l - 1) (ways v n) (next_child v n)) (tally (s.count + 1) w)
+      ≡ check v l visited (Some s)
   node-inner z =
       let d : l ≡ suc (l - 1) = omega arith in
       ap (fold (check v (l - 1)) (visits_of v n (l - 1) (ways v n) (next_child v n))) after
       ∙ sym (ap (λ (e : ℕ). check v e visited (Some s)) d ∙ check-inner v (l - 1) visited s.count s.unfinished m.fit m.few)
 
 -- a node that stands somewhere is in the table
-pub stands-has : (t : Words) (n l k r : ℕ) → header_ok t ≡ true → (b : Bool) → b ≡ stands (view t) (standing n l k r) → b ≡ true → has_node t n ≡ true
+pub stands-has : (t : Words) (n l k r : ℕ) → header_ok t ≡ true → (b : Bool) → b ≡ stands (view t) (standing n l k r) → b
+    ≡ true → has_node t n ≡ true
 unfolding stands
 stands-has t n l k r h b e q = has-node-range t n h ∙ ((and-iff (in_range (nodes t) n) _).0 (sym e ∙ q)).0
 
 -- ---- a slot
 
 visit-way : (v : View) (n l k r p a c : ℕ) (u : Unfinished)
-    → visit v (record { node = n; level = l; fence = k; right = r; way = missing_at p a }) (tally c u) ≡ visit v (standing n l k r) (tally c (together u (missing_at p a)))
+    → visit v (record { node = n; level = l; fence = k; right = r; way = missing_at p a }) (tally c u)
+    ≡ visit v (standing n l k r) (tally c (together u (missing_at p a)))
 unfolding visit fits stands
 visit-way v n l k r p a c u =
-    ap (λ (z : Unfinished). elim (fits v (standing n l k r) && ltb c v.nodes) as (λ (b : Bool). Tally) [ true ↦ tally (suc c) z | false ↦ None ])
+    ap (λ (z : Unfinished). elim (fits v (standing n l k r) && ltb c v.nodes) as (λ (b : Bool). Tally)
+    [ true ↦ tally (suc c) z | false ↦ None ])
     (sym (joint.assoc u (missing_at p a) (own v n)))
 
 -- what is missing on the way may be noted before the visit
@@ -141,7 +143,8 @@ module _ (t : Words) (p d k c r : ℕ) (s : Tally) (b : ℕ) (e : b ≡ word_of 
 
   pub slot-right : (u : Tally) → u ≡ check (view t) d (standing c d k r) s → b ≡ r → u ≡ slot_checked (view t) p d k c r s
   unfolding slot_checked
-  slot-right u q h = q ∙ rw (visits-yes (view t) p d (slot k c) [] r (eq-eqb (node_view t c).sibling r (is-sibling ∙ h))) (unfold visits_of in refl)
+  slot-right u q h = q
+      ∙ rw (visits-yes (view t) p d (slot k c) [] r (eq-eqb (node_view t c).sibling r (is-sibling ∙ h))) (unfold visits_of in refl)
 
   pub slot-lacks : (f : ℕ) (x y u : Tally) → f ≡ word_of t b 3 → y ≡ noted p c s → x ≡ check (view t) d (standing c d k b) y
       → u ≡ check (view t) d (standing b d f r) x → (b ≡ r → ⊥) → u ≡ slot_checked (view t) p d k c r s
@@ -150,7 +153,8 @@ module _ (t : Words) (p d k c r : ℕ) (s : Tally) (b : ℕ) (e : b ≡ word_of 
       let second = check (view t) d (standing (node_view t c).sibling d (node_view t (node_view t c).sibling).fence r) in
       q ∙ ap (λ (z : ℕ). check (view t) d (standing b d z r) x) (g ∙ word-fence t b)
       ∙ ap (check (view t) d (standing b d (node_view t b).fence r)) (i ∙ ap (check (view t) d (standing c d k b)) n)
-      ∙ ap (λ (z : ℕ). check (view t) d (standing z d (node_view t z).fence r) (check (view t) d (standing c d k z) (noted p c s))) (sym is-sibling)
+      ∙ ap (λ (z : ℕ). check (view t) d (standing z d (node_view t z).fence r) (check (view t) d (standing c d k z) (noted p c s)))
+      (sym is-sibling)
       ∙ rw (visits-no (view t) p d (slot k c) [] r (ne_eqb (node_view t c).sibling r (λ z. h (sym is-sibling ∙ z))))
       (unfold visits_of in ap second (sym (way-noted (view t) d c d k (node_view t c).sibling p c s)))
 
@@ -168,12 +172,14 @@ pointer-here w i e h = sym (ap (λ (ss : List Slot). head_or e (pointers ss)) (w
 
 -- the first slot, then the others
 slots-law : (v : View) (p d : ℕ) (s : Slot) (ss : List Slot) (e : ℕ) (y : Tally)
-    → fold (check v d) (visits_of v p d (s ∷ ss) e) y ≡ fold (check v d) (visits_of v p d ss e) (slot_checked v p d s.key s.pointer (head_or e (pointers ss)) y)
+    → fold (check v d) (visits_of v p d (s ∷ ss) e) y
+    ≡ fold (check v d) (visits_of v p d ss e) (slot_checked v p d s.key s.pointer (head_or e (pointers ss)) y)
 unfolding slot_checked
 slots-law v p d s ss e y = go (eqb (v.node s.pointer).sibling (head_or e (pointers ss))) refl
   where
     go : (b : Bool) → eqb (v.node s.pointer).sibling (head_or e (pointers ss)) ≡ b
-        → fold (check v d) (visits_of v p d (s ∷ ss) e) y ≡ fold (check v d) (visits_of v p d ss e) (fold (check v d) (visits_of v p d (s ∷ []) (head_or e (pointers ss))) y)
+        → fold (check v d) (visits_of v p d (s ∷ ss) e) y
+        ≡ fold (check v d) (visits_of v p d ss e) (fold (check v d) (visits_of v p d (s ∷ []) (head_or e (pointers ss))) y)
     go true c = rw (visits-yes v p d s ss e c, visits-yes v p d s [] (head_or e (pointers ss)) c) (unfold visits_of in refl)
     go false c = rw (visits-no v p d s ss e c, visits-no v p d s [] (head_or e (pointers ss)) c) (unfold visits_of in refl)
 
@@ -183,33 +189,40 @@ pub record Rest (v : View) (n d : ℕ) (w : Ways) (e : ℕ) (s₀ s : Tally) (i 
   pub comes-to : rest_checked v n d w i e s ≡ rest_checked v n d w 0 e s₀
 
 module _ {v : View} {n d : ℕ} {w : Ways} {e : ℕ} {s₀ s : Tally} {i : ℕ} (k : Rest v n d w e s₀ s i) where
-  pub rest-next : (a : ℕ) (u : Tally) → i < w.count → a ≡ head_or e (pointers_from w (i + 1)) → u ≡ slot_checked v n d (get_or w.keys i 0) (get_or w.pointers i 0) a s
+  pub rest-next : (a : ℕ) (u : Tally) → i < w.count → a ≡ head_or e (pointers_from w (i + 1)) → u
+      ≡ slot_checked v n d (get_or w.keys i 0) (get_or w.pointers i 0) a s
       → Rest v n d w e s₀ u (i + 1)
   unfolding rest_checked
   rest-next a u h p q =
       record {
         among = omega arith;
         comes-to =
-            ap (fold (check v d) (visits_of v n d (ways_from w (i + 1)) e)) (q ∙ ap (λ (z : ℕ). slot_checked v n d (get_or w.keys i 0) (get_or w.pointers i 0) z s) p)
+            ap (fold (check v d) (visits_of v n d (ways_from w (i + 1)) e))
+            (q ∙ ap (λ (z : ℕ). slot_checked v n d (get_or w.keys i 0) (get_or w.pointers i 0) z s) p)
             ∙ sym
             (ap (λ (ss : List Slot). fold (check v d) (visits_of v n d ss e) s) (ways-next w i h)
             ∙ slots-law v n d (slot (get_or w.keys i 0) (get_or w.pointers i 0)) (ways_from w (i + 1)) e s)
             ∙ k.comes-to;
       }
 
-  all-ways : slots_in w ≡ ways v n → e ≡ next_child v n → rest_checked v n d w 0 e s₀ ≡ fold (check v d) (visits_of v n d (ways v n) (next_child v n)) s₀
+  all-ways : slots_in w ≡ ways v n → e ≡ next_child v n → rest_checked v n d w 0 e s₀
+      ≡ fold (check v d) (visits_of v n d (ways v n) (next_child v n)) s₀
   unfolding rest_checked ways_from
   all-ways p q =
       let z : w.count - 0 ≡ w.count = omega arith in
       ap (λ (m : ℕ). fold (check v d) (visits_of v n d (span w.keys w.pointers 0 m) e) s₀) z
-      ∙ ap (λ (ss : List Slot). fold (check v d) (visits_of v n d ss e) s₀) p ∙ ap (λ (m : ℕ). fold (check v d) (visits_of v n d (ways v n) m) s₀) q
+      ∙ ap (λ (ss : List Slot). fold (check v d) (visits_of v n d ss e) s₀) p
+      ∙ ap (λ (m : ℕ). fold (check v d) (visits_of v n d (ways v n) m) s₀) q
 
-  pub rest-done : w.count ≤ i → slots_in w ≡ ways v n → e ≡ next_child v n → s ≡ fold (check v d) (visits_of v n d (ways v n) (next_child v n)) s₀
+  pub rest-done : w.count ≤ i → slots_in w ≡ ways v n → e ≡ next_child v n → s
+      ≡ fold (check v d) (visits_of v n d (ways v n) (next_child v n)) s₀
   unfolding rest_checked
   rest-done h p q =
-      sym (ap (λ (ss : List Slot). fold (check v d) (visits_of v n d ss e) s) (ways-end w i h) ∙ (unfold visits_of in refl)) ∙ k.comes-to ∙ all-ways p q
+      sym (ap (λ (ss : List Slot). fold (check v d) (visits_of v n d ss e) s) (ways-end w i h) ∙ (unfold visits_of in refl))
+      ∙ k.comes-to ∙ all-ways p q
 
-  pub rest-refused : s ≡ None → slots_in w ≡ ways v n → e ≡ next_child v n → None ≡ fold (check v d) (visits_of v n d (ways v n) (next_child v n)) s₀
+  pub rest-refused : s ≡ None → slots_in w ≡ ways v n → e ≡ next_child v n → None
+      ≡ fold (check v d) (visits_of v n d (ways v n) (next_child v n)) s₀
   unfolding rest_checked
   rest-refused z p q =
       let xs = visits_of v n d (ways_from w i) e in

@@ -1,13 +1,7 @@
 -- The leftover, the room in the parent, and the whole check, as their code meets them.
-use mathlib.Core.Path.{◌≡◌, refl, ap, sym, ◌∙◌}
-use mathlib.Core.Bool.{Bool, true, false, cond, ◌&&◌, false≢true, and-false}
-use mathlib.Core.Logic.{◌↔◌}
-use mathlib.Core.List.{List, [], ◌∷◌}
+use Rattle.std.proofs.Common.{◌≡◌, ℕ, Bool, true, false, cond, ◌&&◌, leb, ◌↔◌, List, [], ◌∷◌, length, sym, refl, ap, ◌∙◌, arith}
+use mathlib.Core.Bool.{false≢true, and-false}
 use mathlib.Core.Option.{Option, none, some}
-use Prim.Native.Nat.{ℕ}
-use native.Mathlib.Omega.{arith}
-use lib.Dec.{leb}
-use lib.ListN.{length}
 use Rattle.model.specs.declared.Node.{Node}
 use Rattle.std.specs.Prelude.{None, Some, is_some}
 use Rattle.std.proofs.lemmas.Option.{none-some, same_Some}
@@ -16,7 +10,8 @@ use Rattle.model.specs.Table.{Words, node}
 use Rattle.model.specs.Slots.{used, View, view_from, view}
 use Rattle.model.specs.Reached.{reached, mapping, trees, reached_all}
 use Rattle.model.specs.SoundTest as model
-use Rattle.model.specs.SoundTest.{all, orderly, recordings_ok, leftover_of, leftover, is_nothing, is_allowed, has_room, room, sound_view, leftover_in, leftover_all, sound}
+use Rattle.model.specs.SoundTest.{all, orderly, recordings_ok, leftover_of, leftover, is_nothing, is_allowed, has_room, room, sound_view}
+use Rattle.model.specs.SoundTest.{leftover_in, leftover_all, sound}
 use Rattle.list_laws.proofs.Tools.{and-iff}
 use Rattle.view_laws.proofs.AnyRoot.{any-room}
 use Rattle.walk_laws.specs.Walk.{walk}
@@ -105,7 +100,8 @@ module _ (v : View) (s : Visited) (walked : Some s ≡ walk v) where
         let yes-sound : sound_view v ≡ true = sound-is ∙ rw g (ap (is_allowed v) allowed ∙ h) in
         rw (yes-sound, checked_tree)
         (ap (λ (y : Leftover). found y s.count) (sym (said-meant x)) ∙ ap (found (said (meant x))) passed.count-is
-        ∙ ap (λ (o : Option model.Leftover). sound_with true o (length (reached v))) (sym (ap leftover_of (sym passed.unfinished-is) ∙ allowed)))
+        ∙ ap (λ (o : Option model.Leftover). sound_with true o (length (reached v)))
+        (sym (ap leftover_of (sym passed.unfinished-is) ∙ allowed)))
 
 -- ---- what an answer says
 
@@ -142,10 +138,14 @@ module _ (v : View) where
   unfolding sound_view
   some-left e n = false≢true (sym (ap (is_allowed v) n) ∙ ((and-iff (orderly v) (is_allowed v (leftover v))).0 e).1)
 
+  -- if the check of a tree finds leftover x and c nodes, the tree is sound, with x left over and c nodes reached
   pub tree-sound : (x : Leftover) (c : ℕ) → checked_tree v ≡ found x c → SoundTree v x c
   unfolding checked_tree
-  tree-sound x c q = let u = (with-sound (sound_view v) (leftover v) (length (reached v)) c x).0 q in record { is-sound = u.0; leftover-is = u.1.0; reached-are = u.1.1 }
+  tree-sound x c q = let u =
+      (with-sound (sound_view v) (leftover v) (length (reached v)) c x).0 q in record
+      { is-sound = u.0; leftover-is = u.1.0; reached-are = u.1.1 }
 
+  -- if the check of a tree finds nothing, the tree is not sound
   pub tree-unsound : checked_tree v ≡ None → sound_view v ≡ false
   unfolding checked_tree
   tree-unsound q = (with-unsound (sound_view v) (leftover v) (length (reached v)) some-left).0 q
@@ -164,6 +164,7 @@ sound-some : (t : Words) → sound t ≡ true → leftover_all t ≡ none → �
 unfolding sound
 sound-some t e = some-of (trees t) (simp and-iff at e).1.0
 
+-- the check finds leftover x and c nodes exactly if the table is sound, with x left over and c nodes reached
 pub checked-sound : (t : Words) (x : Leftover) (c : ℕ) → (checked t ≡ found x c) ↔ SoundWith t x c
 unfolding checked
 checked-sound t x c =
@@ -172,6 +173,7 @@ checked-sound t x c =
       λ s. i.1 (s.is-sound, (s.leftover-is, s.reached-are)),
     )
 
+-- the check finds nothing exactly if the table is not sound
 pub checked-unsound : (t : Words) → (checked t ≡ None) ↔ (sound t ≡ false)
 unfolding checked
 checked-unsound t = with-unsound (sound t) (leftover_all t) (length (reached_all t)) (sound-some t)

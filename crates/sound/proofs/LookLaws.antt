@@ -1,12 +1,7 @@
 -- What a survey of node n's slots says of the node.
-use mathlib.Core.Path.{◌≡◌, refl, ap, ap₂, sym, ◌∙◌}
-use mathlib.Core.Bool.{Bool, true, false, cond, not, ◌&&◌, ◌||◌, and-true, and-false}
-use mathlib.Core.List.{List}
-use Prim.Native.Nat.{ℕ, suc}
-use native.Mathlib.Nat.{zero-add}
-use lib.Dec.{eqb}
-use lib.ListN.{length}
-use borrow.Author.Tests.{eqb-true, eq-eqb}
+use Rattle.std.proofs.Common.{◌≡◌, ℕ, suc, Bool, true, false, cond, not, ◌&&◌, ◌||◌, eqb, List, length, sym, refl, ap, ◌∙◌, ap₂, zero-add}
+use Rattle.std.proofs.Common.{eq-eqb, eqb-true}
+use mathlib.Core.Bool.{and-true, and-false}
 use mir.Val.{bool_byte}
 use Rattle.std.specs.Prelude.{None, Some}
 use Rattle.model.specs.declared.Node.{Node}
@@ -34,7 +29,10 @@ use Rattle.sound.specs.Nodes.{left_ok, look_of}
 
 all-kept : (q : Slot → Bool) (l : List Slot) → eqb (length (filter q l)) (length l) ≡ all q l
 all-kept q l =
-    same-test _ _ (λ e. (all-each q l).1 (filter-whole q l (eqb-true _ _ e)), λ e. eq-eqb _ _ (ap length (filter-all q l ((all-each q l).0 e))))
+    same-test _ _ (
+      λ e. (all-each q l).1 (filter-whole q l (eqb-true _ _ e)),
+      λ e. eq-eqb _ _ (ap length (filter-all q l ((all-each q l).0 e))),
+    )
 
 turned : (b c : Bool) → not b ≡ c → b ≡ not c
 turned true c e = ap not e
@@ -100,7 +98,8 @@ module _ (t : Words) (n : ℕ) where
       turn false = refl
 
   -- what is unfinished in it, from the survey's counts
-  seen-own : (h tr : Few ℕ) → h ≡ times n seen.hidden → tr ≡ cond seen.trailing (One n) Zero → record { hidden = h; trailing = tr; missing = Zero } ≡ own (view t) n
+  seen-own : (h tr : Few ℕ) → h ≡ times n seen.hidden → tr ≡ cond seen.trailing (One n) Zero
+      → record { hidden = h; trailing = tr; missing = Zero } ≡ own (view t) n
   unfolding own
   seen-own h tr p q = λ i. record { hidden = (p ∙ ap (times n) seen-hidden) i; trailing = (q ∙ seen-trailing) i; missing = Zero }
 
@@ -136,10 +135,12 @@ module _ (t : Words) (n : ℕ) where
     pub look-wrong : not s.fair ≡ false → (a : Bool) → Alone a → a ≡ false → None ≡ look_of (view t) n
     look-wrong f a z y = wrong (made false f a z ∙ y)
 
-    pub look-is : not s.fair ≡ false → (a : Bool) (h tr : Few ℕ) → Alone a → a ≡ true → h ≡ times n s.hidden → tr ≡ cond s.trailing (One n) Zero
+    pub look-is : not s.fair ≡ false → (a : Bool) (h tr : Few ℕ) → Alone a → a ≡ true → h ≡ times n s.hidden → tr
+        ≡ cond s.trailing (One n) Zero
         → Some (record { hidden = h; trailing = tr; missing = Zero }) ≡ look_of (view t) n
     unfolding look_of
     look-is f a h tr z y p r =
         let b : alone_ok (view t) n ≡ true = made false f a z ∙ y in
-        let o = seen-own h tr (p ∙ ap (λ (y : Survey). times n y.hidden) seen-is) (r ∙ ap (λ (y : Survey). cond y.trailing (One n) Zero) seen-is) in
+        let o = seen-own h tr (p ∙ ap (λ (y : Survey). times n y.hidden) seen-is)
+        (r ∙ ap (λ (y : Survey). cond y.trailing (One n) Zero) seen-is) in
         rw b (ap Some o)

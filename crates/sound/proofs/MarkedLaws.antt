@@ -1,15 +1,11 @@
--- Where the reached nodes are marked, the leaves among the marked nodes, by their numbers, have the pairs of the map in another order: every
+-- Where the reached nodes are marked, the leaves among the marked nodes, by their numbers, have the pairs of the map in another order:
+-- every
 -- sum over them is the map's, and so are both tests of the recordings.
-use mathlib.Core.Path.{◌≡◌, refl, ap, sym, ◌∙◌}
-use mathlib.Core.Bool.{Bool, true, false, cond, ◌&&◌, ◌||◌, false≢true}
-use mathlib.Core.Logic.{◌↔◌, ◌≢◌}
-use mathlib.Core.List.{List, [], ◌∷◌, map}
-use Prim.Native.Nat.{ℕ, zero, suc, ◌+◌, ◌≤◌, ◌<◌}
-use native.Mathlib.Omega.{arith}
-use lib.Dec.{eqb}
-use lib.ListN.{replicate}
+use Rattle.std.proofs.Common.{◌≡◌, ℕ, zero, suc, ◌+◌, ◌<◌, ◌≤◌, Bool, true, false, cond, ◌&&◌, ◌||◌, eqb, ◌≢◌, ◌↔◌, List, [], ◌∷◌, map}
+use Rattle.std.proofs.Common.{replicate, sym, refl, ap, ◌∙◌, arith, eq-eqb, ne_eqb, eqb-true}
+use mathlib.Core.Bool.{false≢true}
 use mathlib.Core.Option.{some}
-use borrow.Author.Tests.{eqb-true, eqb-false, eq-eqb, ne_eqb}
+use borrow.Author.Tests.{eqb-false}
 use Rattle.std.specs.Prelude.{Option, Some}
 use Rattle.model.specs.declared.Unfinished.{Unfinished}
 use Rattle.model.specs.declared.Visited.{Visited}
@@ -17,7 +13,8 @@ use Rattle.model.specs.Table.{Words, root, header_ok}
 use Rattle.model.specs.Slots.{Slot, recording, View, view_from, view, height}
 use Rattle.model.specs.Search.{below}
 use Rattle.model.specs.Reached.{flat, kept, children, reached_from, leaves_from, reached, mapping}
-use Rattle.model.specs.SoundTest.{all, elem, distinct, pair_ok, recordings_ok, Leftover, nothing, hidden_in, missing_in, both_in, unfinished, leftover_of, leftover}
+use Rattle.model.specs.SoundTest.{all, elem, distinct, pair_ok, recordings_ok, Leftover, nothing, hidden_in, missing_in, both_in}
+use Rattle.model.specs.SoundTest.{unfinished, leftover_of, leftover}
 use Rattle.model.specs.Writes.{numbers}
 use Rattle.list_laws.proofs.Tools.{same-test, Each, Each-append, Each-map}
 use Rattle.list_laws.proofs.Members.{mem-each, each-elem}
@@ -78,7 +75,8 @@ module _ {M : Type 0} (m : Monoid M) where
           ∙ unit-right m (g a) ∙ ap g (eqb-true a l c)
       go false c ih = ap (λ (b : Bool). m.op (taken b (g a)) rest) c ∙ m.unit-left rest ∙ ih (omega (arith, eqb-false a l c)) (omega arith)
 
-  apart : (l : ℕ) (ls : List ℕ) (x : ℕ) (y : M) → elem l ls ≡ false → taken (elem x (l ∷ ls)) y ≡ m.op (taken (eqb x l) y) (taken (elem x ls) y)
+  apart : (l : ℕ) (ls : List ℕ) (x : ℕ) (y : M) → elem l ls ≡ false → taken (elem x (l ∷ ls)) y
+      ≡ m.op (taken (eqb x l) y) (taken (elem x ls) y)
   unfolding elem
   apart l ls x y e = go (eqb x l) refl
     where
@@ -89,7 +87,8 @@ module _ {M : Type 0} (m : Monoid M) where
       go false c = rw c (sym (m.unit-left (taken (elem x ls) y)))
 
   -- numbers from 1 to n, each once, and summed in their order
-  in-order : (g : ℕ → M) (n : ℕ) (ls : List ℕ) → distinct ls ≡ true → Each (UpTo n) ls → sum m (λ (x : ℕ). taken (elem x ls) (g x)) (numbers 1 n) ≡ sum m g ls
+  in-order : (g : ℕ → M) (n : ℕ) (ls : List ℕ) → distinct ls ≡ true → Each (UpTo n) ls
+      → sum m (λ (x : ℕ). taken (elem x ls) (g x)) (numbers 1 n) ≡ sum m g ls
   unfolding elem
   in-order g n [] d r = go (numbers 1 n)
     where
@@ -125,12 +124,14 @@ module _ {M : Type 0} (m : Monoid M) (g : Slot → M) (v : View) where
   unfolding reached_from leaves_from
   leaves-sum zero ns l =
       sum-same m of_leaf (λ (n : ℕ). sum m g (kept v n)) ns
-      (Each-map (At v 0) (λ (n : ℕ). of_leaf n ≡ sum m g (kept v n)) ns (λ n a. ap (λ (b : Bool). taken m b (sum m g (kept v n))) (eq-eqb (v.node n).level 0 a.level)) l.row.at)
+      (Each-map (At v 0) (λ (n : ℕ). of_leaf n ≡ sum m g (kept v n)) ns
+      (λ n a. ap (λ (b : Bool). taken m b (sum m g (kept v n))) (eq-eqb (v.node n).level 0 a.level)) l.row.at)
       ∙ sym (sum-flat m g (kept v) ns)
   leaves-sum (suc d) ns l =
       let lower = reached_from v d (flat (children v) ns) in
       let none : sum m of_leaf ns ≡ m.unit = sum-unit m of_leaf ns
-      (Each-map (At v (suc d)) (λ (n : ℕ). of_leaf n ≡ m.unit) ns (λ n a. ap (λ (b : Bool). taken m b (sum m g (kept v n))) (ne_eqb (v.node n).level 0 (λ z. omega (arith, a.level)))) l.row.at) in
+      (Each-map (At v (suc d)) (λ (n : ℕ). of_leaf n ≡ m.unit) ns
+      (λ n a. ap (λ (b : Bool). taken m b (sum m g (kept v n))) (ne_eqb (v.node n).level 0 (λ z. omega (arith, a.level)))) l.row.at) in
       sum-append m of_leaf ns lower ∙ ap (λ (y : M). m.op y (sum m of_leaf lower)) none ∙ m.unit-left (sum m of_leaf lower)
       ∙ leaves-sum d (flat (children v) ns) (level-lower v d ns l)
 
@@ -148,7 +149,8 @@ module _ {M : Type 0} (m : Monoid M) (g : Slot → M) (v : View) where
     unfolding own
     own-sum n l = go (has marks.bits n) (eqb (v.node n).level 0) refl
       where
-        go : (a b : Bool) → has marks.bits n ≡ a → sum m g (cond (a && b) (cond (is_one marks.uncut n) (kept v n) (v.node n).shown) []) ≡ taken m (elem n (reached v)) (taken m b (sum m g (kept v n)))
+        go : (a b : Bool) → has marks.bits n ≡ a → sum m g (cond (a && b) (cond (is_one marks.uncut n) (kept v n) (v.node n).shown) [])
+            ≡ taken m (elem n (reached v)) (taken m b (sum m g (kept v n)))
         go true true c =
             let e : elem n (reached v) ≡ true = sym (marked n l) ∙ c in
             ap (sum m g) (chosen n e) ∙ sym (ap (λ (x : Bool). taken m x (sum m g (kept v n))) e)
@@ -160,7 +162,8 @@ module _ {M : Type 0} (m : Monoid M) (g : Slot → M) (v : View) where
     marked-sum o =
         sum-flat m g (own v marks) (numbers 1 v.nodes)
         ∙ sum-same m (λ (n : ℕ). sum m g (own v marks n)) (λ (n : ℕ). taken m (elem n (reached v)) (of_leaf n)) (numbers 1 v.nodes)
-        (Each-map (λ (n : ℕ). (1 ≤ n) × (n < 1 + v.nodes)) (λ (n : ℕ). sum m g (own v marks n) ≡ taken m (elem n (reached v)) (of_leaf n)) (numbers 1 v.nodes)
+        (Each-map (λ (n : ℕ). (1 ≤ n) × (n < 1 + v.nodes))
+        (λ (n : ℕ). sum m g (own v marks n) ≡ taken m (elem n (reached v)) (of_leaf n)) (numbers 1 v.nodes)
         (λ n h. let b = h.1 in own-sum n (omega arith)) (numbers-each 1 v.nodes))
         ∙ in-order m of_leaf v.nodes (reached v) (in-order-once v o) (in-range v (height v) (v.root ∷ []) (top-level v o))
         ∙ leaves-sum (height v) (v.root ∷ []) (top-level v o)
@@ -179,7 +182,8 @@ unfolding elem
 times-none x [] = (λ e. refl, λ e. refl)
 times-none x (s ∷ ss) = go (eqb x (recording s)) (times-none x ss)
   where
-    go : (b : Bool) → (elem x (map recording ss) ≡ false) ↔ (times x ss ≡ 0) → ((b || elem x (map recording ss)) ≡ false) ↔ (one_if b + times x ss ≡ 0)
+    go : (b : Bool) → (elem x (map recording ss) ≡ false) ↔ (times x ss ≡ 0)
+        → ((b || elem x (map recording ss)) ≡ false) ↔ (one_if b + times x ss ≡ 0)
     go true i = (λ e. absurd (false≢true (sym e)), λ e. absurd (omega arith))
     go false i = (λ e. let z = i.0 e in omega arith, λ e. i.1 (omega arith))
 
@@ -187,19 +191,23 @@ times-none x (s ∷ ss) = go (eqb x (recording s)) (times-none x ss)
 distinct-times : (ss : List Slot) → (distinct (map recording ss) ≡ true) ↔ ((x : ℕ) → times x ss ≤ 1)
 unfolding distinct
 distinct-times [] = (λ e x. omega arith, λ h. refl)
-distinct-times (s ∷ ss) = (λ d. there ((distinct-cons (recording s) (map recording ss)).0 d) (distinct-times ss).0, back (distinct-times ss).1)
+distinct-times (s ∷ ss) =
+    (λ d. there ((distinct-cons (recording s) (map recording ss)).0 d) (distinct-times ss).0, back (distinct-times ss).1)
   where
-    there : (elem (recording s) (map recording ss) ≡ false) × (distinct (map recording ss) ≡ true) → (distinct (map recording ss) ≡ true → (x : ℕ) → times x ss ≤ 1) → (x : ℕ) → times x (s ∷ ss) ≤ 1
+    there : (elem (recording s) (map recording ss) ≡ false) × (distinct (map recording ss) ≡ true)
+        → (distinct (map recording ss) ≡ true → (x : ℕ) → times x ss ≤ 1) → (x : ℕ) → times x (s ∷ ss) ≤ 1
     there u ih x = go (eqb x (recording s)) refl
       where
         go : (b : Bool) → eqb x (recording s) ≡ b → one_if b + times x ss ≤ 1
         go true c = omega (arith, (times-none x ss).0 (ap (λ (y : ℕ). elem y (map recording ss)) (eqb-true x (recording s) c) ∙ u.0))
         go false c = omega (arith, ih u.1 x)
 
-    back : (((x : ℕ) → times x ss ≤ 1) → distinct (map recording ss) ≡ true) → ((x : ℕ) → times x (s ∷ ss) ≤ 1) → distinct (recording s ∷ map recording ss) ≡ true
+    back : (((x : ℕ) → times x ss ≤ 1) → distinct (map recording ss) ≡ true) → ((x : ℕ) → times x (s ∷ ss) ≤ 1)
+        → distinct (recording s ∷ map recording ss) ≡ true
     back ih h =
         let here : one_if (eqb (recording s) (recording s)) ≡ 1 = ap one_if (eq-eqb (recording s) (recording s) refl) in
-        (distinct-cons (recording s) (map recording ss)).1 ((times-none (recording s) ss).1 (omega (arith, here, h (recording s))), ih (λ x. omega (arith, h x)))
+        (distinct-cons (recording s) (map recording ss)).1
+        ((times-none (recording s) ss).1 (omega (arith, here, h (recording s))), ih (λ x. omega (arith, h x)))
 
 distinct-same : (ss us : List Slot) → ((x : ℕ) → times x ss ≡ times x us) → distinct (map recording ss) ≡ distinct (map recording us)
 distinct-same ss us e =
@@ -211,11 +219,13 @@ distinct-same ss us e =
 -- ---- the marks that a walk made, and the node that is cut
 
 -- where this is left, every reached node but the uncut one keeps all that it shows
-left-keeps : (v : View) (x : Leftover) → Left v x → (n : ℕ) → elem n (reached v) ≡ true → is_one (uncut_in x) n ≡ false → kept v n ≡ (v.node n).shown
+left-keeps : (v : View) (x : Leftover) → Left v x → (n : ℕ) → elem n (reached v) ≡ true → is_one (uncut_in x) n ≡ false
+    → kept v n ≡ (v.node n).shown
 left-keeps v nothing h n e z = each-elem (λ (i : ℕ). kept v i ≡ (v.node i).shown) n (reached v) e h.1
 left-keeps v (hidden_in y) h n e z = each-elem (λ (i : ℕ). kept v i ≡ (v.node i).shown) n (reached v) e h.1
 left-keeps v (missing_in p a false) h n e z = each-elem (λ (i : ℕ). kept v i ≡ (v.node i).shown) n (reached v) e h.1
-left-keeps v (missing_in p a true) h n e z = each-elem (λ (i : ℕ). i ≢ a → kept v i ≡ (v.node i).shown) n (reached v) e h.1.others (λ y. eqb-false a n z (sym y))
+left-keeps v (missing_in p a true) h n e z =
+    each-elem (λ (i : ℕ). i ≢ a → kept v i ≡ (v.node i).shown) n (reached v) e h.1.others (λ y. eqb-false a n z (sym y))
 left-keeps v (both_in p a) h n e z = each-elem (λ (i : ℕ). kept v i ≡ (v.node i).shown) n (reached v) e h.1
 
 left-is : (v : View) (u : Unfinished) (x : Leftover) → u ≡ unfinished v → leftover_of u ≡ some x → leftover v ≡ some x
@@ -237,7 +247,8 @@ module _ (v : View) (marks : Marks) (marked : (n : ℕ) → n ≤ v.nodes → ha
       let ranges : all pair_ok (marked_pairs v marks) ≡ all pair_ok (mapping v) =
       all-sum pair_ok (marked_pairs v marks) ∙ marked-sum tests pair_ok v marks marked keeps o ∙ sym (all-sum pair_ok (mapping v)) in
       let once : distinct (map recording (marked_pairs v marks)) ≡ distinct (map recording (mapping v)) =
-      distinct-same (marked_pairs v marks) (mapping v) (λ x. marked-sum sums.numbers (λ (s : Slot). one_if (eqb x (recording s))) v marks marked keeps o) in
+      distinct-same (marked_pairs v marks) (mapping v)
+      (λ x. marked-sum sums.numbers (λ (s : Slot). one_if (eqb x (recording s))) v marks marked keeps o) in
       ap (λ (b : Bool). b && distinct (map recording (marked_pairs v marks))) ranges ∙ ap (λ (b : Bool). all pair_ok (mapping v) && b) once
 
 -- a walk was not refused, and marked what it reached: the marked leaves tell of the map
@@ -249,7 +260,8 @@ walk-right t r n s marks x hd e a l w b g =
     let o = seen-order v (Some s) e tt in
     let p = (walk-iff v s.count s.unfinished).0 (sym e) in
     let is-left = left-is v s.unfinished x p.unfinished-is l in
-    let marked : (i : ℕ) → i ≤ v.nodes → has marks.bits i ≡ elem i (reached v) = λ i k. a i ∙ ap (λ (z : Bool). z || elem i (reached v)) (none-marked n i) in
+    let marked : (i : ℕ) → i ≤ v.nodes → has marks.bits i ≡ elem i (reached v) =
+    λ i k. a i ∙ ap (λ (z : Bool). z || elem i (reached v)) (none-marked n i) in
     let keeps : (i : ℕ) → elem i (reached v) ≡ true → is_one marks.uncut i ≡ false → kept v i ≡ (v.node i).shown = λ i k z.
     left-keeps v x ((leftover-iff v p.once x).0 is-left) i k (sym (ap (λ (u : Option ℕ). is_one u i) w) ∙ z) in
     g ∙ ap recordings_ok (any-marked t (root t) r marks) ∙ marked-right v marks marked keeps o

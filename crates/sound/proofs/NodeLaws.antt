@@ -1,14 +1,9 @@
 -- What the functions over one node answer, from what they read.
-use mathlib.Core.Path.{◌≡◌, ap, ap₂, sym, ◌∙◌}
-use mathlib.Core.Bool.{Bool, true, false, ◌&&◌, ◌||◌, and_assoc}
-use Prim.Native.Nat.{ℕ, ◌+◌, ◌<◌}
-use native.Mathlib.Omega.{arith}
-use lib.Dec.{ltb, eqb}
-use lib.ListN.{length, take, drop, get_or, replicate, length-take, length-drop}
-use lib.Seq.{take-take, drop-drop}
+use Rattle.std.proofs.Common.{◌≡◌, ℕ, ◌+◌, ◌<◌, Bool, true, false, ◌&&◌, ◌||◌, eqb, ltb, length, get_or, take, drop, replicate, sym, ap}
+use Rattle.std.proofs.Common.{◌∙◌, ap₂, arith, length-drop, length-take, take-take, drop-drop, lt-ltb, eq-eqb, ne_eqb}
+use mathlib.Core.Bool.{and_assoc}
 use lib.Pointwise.{pointwise}
 use Rattle.std.proofs.lemmas.List.{drop-take, get_or-take, get_or-drop}
-use borrow.Author.Tests.{eq-eqb, ne_eqb, lt-ltb}
 use Rattle.model.specs.Table.{Words, at, nodes, in_range, header_ok, node_start, has_node, node, spare, all_zero}
 use Rattle.model.specs.Slots.{view, clear_in}
 use Rattle.model.specs.Reached.{first_child, next_child}
@@ -30,12 +25,14 @@ module _ (t : Words) (n : ℕ) (h : has_node t n ≡ true) (ws : Words) (w : ws 
   spare-words : take 4 (drop 4 ws) ≡ spare t n
   spare-words =
       let s = node_start n in
-      ap (λ (xs : Words). take 4 (drop 4 xs)) w ∙ ap (take 4) (drop-take 4 28 (drop s t)) ∙ take-take 4 28 (drop 4 (drop s t)) (omega arith) ∙ ap (take 4) (drop-drop 4 s t) ∙ sym (spare-in t n h)
+      ap (λ (xs : Words). take 4 (drop 4 xs)) w ∙ ap (take 4) (drop-take 4 28 (drop s t)) ∙ take-take 4 28 (drop 4 (drop s t)) (omega arith)
+      ∙ ap (take 4) (drop-drop 4 s t) ∙ sym (spare-in t n h)
 
   last-word : get_or ws 31 0 ≡ word_of t n 31
   last-word =
       let s = node_start n in
-      ap (λ (xs : Words). get_or xs 31 0) w ∙ get_or-take 32 (drop s t) 31 0 (omega arith) ∙ get_or-drop s t 31 0 ∙ sym (word-at t n 31 h (omega arith))
+      ap (λ (xs : Words). get_or xs 31 0) w ∙ get_or-take 32 (drop s t) 31 0 (omega arith) ∙ get_or-drop s t 31 0
+      ∙ sym (word-at t n 31 h (omega arith))
 
   module _ (l : length ws ≡ 32) (b : Bool) (e : b ≡ pointwise eqb (take 4 (drop 4 ws)) (replicate 4 0)) where
     clear-words : clear_in t n ≡ (b && eqb (get_or ws 31 0) 0)

@@ -1,12 +1,8 @@
 -- The check of a table by the checks of its trees.
-use mathlib.Core.Path.{◌≡◌, refl, ap, sym, ◌∙◌}
-use mathlib.Core.Bool.{Bool, true, false, cond, ◌&&◌, ◌||◌, and-false, and-true}
-use mathlib.Core.Logic.{◌≢◌}
+use Rattle.std.proofs.Common.{◌≡◌, ℕ, zero, suc, ◌+◌, ◌≤◌, Bool, true, false, cond, ◌&&◌, ◌||◌, ◌≢◌, length, sym, refl, ap, ◌∙◌, arith}
+use Rattle.std.proofs.Common.{eq-eqb, ne_eqb}
+use mathlib.Core.Bool.{and-false, and-true}
 use mathlib.Core.Option.{Option, some}
-use Prim.Native.Nat.{ℕ, zero, suc, ◌+◌, ◌≤◌}
-use native.Mathlib.Omega.{arith}
-use lib.ListN.{length}
-use borrow.Author.Tests.{eq-eqb, ne_eqb}
 use Rattle.std.specs.Prelude.{None, Some}
 use Rattle.std.specs.Result.{result_ok}
 use Rattle.std.proofs.lemmas.Option.{none-some}
@@ -36,6 +32,7 @@ joined-is x y n false false = refl
 
 -- what is known of a tree whose root was read from the header
 module _ (t : Words) (w r : ℕ) (e : r ≡ at t w) where
+  -- the check of the tree at the root that was read is that of the root in its header word
   pub tree-at : (a : Checked) → a ≡ checked_tree (view_from t r) → checked_tree (view_from t (at t w)) ≡ a
   tree-at a q = sym (q ∙ ap (λ (k : ℕ). checked_tree (view_from t k)) e)
 
@@ -57,11 +54,13 @@ module _ (t : Words) where
   pub wrong-header : (a : Outcome) → a ≡ passed (header_number t) → result_ok a ≡ None → None ≡ checked t
   wrong-header a e z = refused (unfold sound in rw (header-number-refused t (λ q. none-some tt (sym z ∙ ap result_ok (e ∙ ap passed q)))))
 
-  answer-is : (b : Bool) (o : Option model.Leftover) (n : ℕ) → sound t ≡ b → leftover_all t ≡ o → length (reached_all t) ≡ n → sound_with b o n ≡ checked t
+  answer-is : (b : Bool) (o : Option model.Leftover) (n : ℕ) → sound t ≡ b → leftover_all t ≡ o → length (reached_all t) ≡ n
+      → sound_with b o n ≡ checked t
   unfolding checked
   answer-is b o n p q r =
       sym
-      (ap (λ (x : Bool). sound_with x (leftover_all t) (length (reached_all t))) p ∙ ap (λ (x : Option model.Leftover). sound_with b x (length (reached_all t))) q
+      (ap (λ (x : Bool). sound_with x (leftover_all t) (length (reached_all t))) p
+      ∙ ap (λ (x : Option model.Leftover). sound_with b x (length (reached_all t))) q
       ∙ ap (sound_with b o) r)
 
   module _ (h : header_ok t ≡ true) where
@@ -95,7 +94,8 @@ pub record BothSound (t : Words) (x y : Leftover) (c d : ℕ) : Type 0 where
   pub two : SoundTree (view_of 2 t) y d
 
 -- as they were checked, from the roots r and q
-pub both-checked : (t : Words) (r q : ℕ) (x y : Sound) → header_ok t ≡ true → r ≡ at t 1 → q ≡ at t 3 → (q ≡ 0 → ⊥) → Some x ≡ checked_tree (view_from t r) → Some y ≡ checked_tree (view_from t q)
+pub both-checked : (t : Words) (r q : ℕ) (x y : Sound) → header_ok t ≡ true → r ≡ at t 1 → q ≡ at t 3 → (q ≡ 0 → ⊥) → Some x
+    ≡ checked_tree (view_from t r) → Some y ≡ checked_tree (view_from t q)
     → BothSound t x.leftover y.leftover x.reached y.reached
 both-checked t r q x y h e g z a b = record {
   header = h;
@@ -116,7 +116,8 @@ module _ {t : Words} {x y : Leftover} {c d : ℕ} (k : BothSound t x y c d) wher
 
   pub few-reached : c + d ≤ 131070
   few-reached =
-      let few : (v : View) (l : Leftover) (n : ℕ) → SoundTree v l n → n ≤ v.nodes = λ v l n s. omega (arith, s.reached-are, in-order-few v (sound-in-order v s.is-sound)) in
+      let few : (v : View) (l : Leftover) (n : ℕ) → SoundTree v l n → n ≤ v.nodes =
+      λ v l n s. omega (arith, s.reached-are, in-order-few v (sound-in-order v s.is-sound)) in
       omega (arith, few (view_of 1 t) x c k.one, few (view_of 2 t) y d k.two, ((header-iff t).0 k.header).size.few)
 
   pub same-leaf : last_leaf (view_of 1 t) ≡ last_leaf (view_of 2 t) → None ≡ checked t
@@ -127,7 +128,9 @@ module _ {t : Words} {x y : Leftover} {c d : ℕ} (k : BothSound t x y c d) wher
       let p = is_nothing (some (meant x)) in
       let q = is_nothing (some (meant y)) in
       let s : sound t ≡ (p || q) = by-beside ∙ rw (ne_eqb last₁ last₂ e, k.one.leftover-is, k.two.leftover-is) in
-      let l : leftover_all t ≡ cond p (some (meant y)) (some (meant x)) = left-beside t k.there ∙ rw (k.one.leftover-is, k.two.leftover-is) in
+      let l : leftover_all t ≡ cond p (some (meant y)) (some (meant x)) =
+      left-beside t k.there ∙ rw (k.one.leftover-is, k.two.leftover-is) in
       let n : length (reached_all t) ≡ c + d =
-      count-beside t k.there ∙ sym (ap (λ (m : ℕ). m + d) k.one.reached-are ∙ ap (λ (m : ℕ). length (reached (view_of 1 t)) + m) k.two.reached-are) in
+      count-beside t k.there
+      ∙ sym (ap (λ (m : ℕ). m + d) k.one.reached-are ∙ ap (λ (m : ℕ). length (reached (view_of 1 t)) + m) k.two.reached-are) in
       joined-is x y (c + d) p q ∙ answer-is t (p || q) (cond p (some (meant y)) (some (meant x))) (c + d) s l n

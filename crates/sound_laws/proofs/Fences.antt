@@ -1,11 +1,7 @@
 -- Rising fences: nodes that slots name, the place between two neighbours of a row, and the siblings in a row.
-use mathlib.Core.Path.{◌≡◌, ap, sym, ◌∙◌, subst}
-use mathlib.Core.Bool.{true}
-use mathlib.Core.Logic.{◌≢◌, ◌⊎◌, inl, inr}
+use Rattle.std.proofs.Common.{◌≡◌, ℕ, suc, ◌<◌, ◌≤◌, true, ◌≢◌, ◌⊎◌, List, [], ◌∷◌, sym, ap, ◌∙◌, subst, inl, inr, arith}
 use mathlib.Core.List.Memᴰ
-use mathlib.Core.List.{List, [], ◌∷◌, Memᴰ}
-use Prim.Native.Nat.{ℕ, suc, ◌≤◌, ◌<◌}
-use native.Mathlib.Omega.{arith}
+use mathlib.Core.List.{Memᴰ}
 use Rattle.model.specs.Slots.{Slot, View}
 use Rattle.model.specs.Reached.{head_or, pointers}
 use Rattle.model.specs.SoundTest.{rising}
@@ -19,17 +15,21 @@ use Rattle.sound_laws.proofs.Neighbours.{Follows, follows-cases, follows-none, f
 
 module _ (v : View) where
   -- nodes named by slots whose keys are their fences
-  pub slots-ascend : (low : ℕ) (ss : List Slot) → rising low ss ≡ true → Each (λ (s : Slot). (v.node s.pointer).fence ≡ s.key) ss → Ascending v (pointers ss)
+  pub slots-ascend : (low : ℕ) (ss : List Slot) → rising low ss ≡ true → Each (λ (s : Slot). (v.node s.pointer).fence ≡ s.key) ss
+      → Ascending v (pointers ss)
   slots-ascend low [] r f = tt
-  slots-ascend low (s ∷ ss) r f = let u = (rising-cons low s ss).0 r in (higher ss (rising-from (suc s.key) ss u.1) f.1, slots-ascend (suc s.key) ss u.1 f.1)
+  slots-ascend low (s ∷ ss) r f = let u =
+      (rising-cons low s ss).0 r in (higher ss (rising-from (suc s.key) ss u.1) f.1, slots-ascend (suc s.key) ss u.1 f.1)
     where
-      higher : (us : List Slot) → Each (λ (u : Slot). s.key < u.key) us → Each (λ (u : Slot). (v.node u.pointer).fence ≡ u.key) us → Each (λ (m : ℕ). (v.node s.pointer).fence < (v.node m).fence) (pointers us)
+      higher : (us : List Slot) → Each (λ (u : Slot). s.key < u.key) us → Each (λ (u : Slot). (v.node u.pointer).fence ≡ u.key) us
+          → Each (λ (m : ℕ). (v.node s.pointer).fence < (v.node m).fence) (pointers us)
       higher [] a g = tt
       higher (u ∷ us) a g = (let p = f.0 in let q = g.0 in let r = a.0 in omega arith, higher us a.1 g.1)
 
   -- a and the next one, c, in a row of rising fences: no fence of the row lies between
   pub data Place (ns : List ℕ) (e a c : ℕ) : Type 0 where
-    inner : Memᴰ c ns → (v.node a).fence < (v.node c).fence → ((m : ℕ) → Memᴰ m ns → ((v.node m).fence ≤ (v.node a).fence) ⊎ ((v.node c).fence ≤ (v.node m).fence)) → Place ns e a c
+    inner : Memᴰ c ns → (v.node a).fence < (v.node c).fence
+        → ((m : ℕ) → Memᴰ m ns → ((v.node m).fence ≤ (v.node a).fence) ⊎ ((v.node c).fence ≤ (v.node m).fence)) → Place ns e a c
     final : c ≡ e → ((m : ℕ) → Memᴰ m ns → (v.node m).fence ≤ (v.node a).fence) → Place ns e a c
 
   place-first : {e a c n : ℕ} (ns : List ℕ) → Ascending v (n ∷ ns) → a ≡ n → c ≡ head_or e ns → Place (n ∷ ns) e a c
@@ -39,7 +39,8 @@ module _ (v : View) where
       go m (inl w) = let r = ap (fence_of v) (w ∙ sym p) in omega arith
       go m (inr k) = absurd (Memᴰ.not-nil k)
   place-first {e} {a} {c} {n} (b ∷ ns) h p q =
-      inner (Memᴰ.tail (Memᴰ.head q)) (let r = ap (fence_of v) p in let s = ap (fence_of v) q in let t = h.0.0 in omega arith) (λ m k. go m (Memᴰ.cases_cons k))
+      inner (Memᴰ.tail (Memᴰ.head q)) (let r = ap (fence_of v) p in let s = ap (fence_of v) q in let t = h.0.0 in omega arith)
+      (λ m k. go m (Memᴰ.cases_cons k))
     where
       far : (m : ℕ) → (m ≡ b) ⊎ Memᴰ m ns → (v.node c).fence ≤ (v.node m).fence
       far m (inl w) = let r = ap (fence_of v) (w ∙ sym q) in omega arith
@@ -77,10 +78,12 @@ module _ (v : View) where
       let u = in-follows 0 m in
       subst (Place ns 0 n) (sym (linked-follows v ns r.chain u.1)) (place ns (ascending v d ns r) u.1)
 
-  pub row-next : (d : ℕ) (ns : List ℕ) → Row v d ns → {m n : ℕ} → Memᴰ m ns → Memᴰ n ns → (v.node n).fence < (v.node m).fence → ((v.node n).sibling ≢ 0) × ((v.node (v.node n).sibling).fence ≤ (v.node m).fence)
+  pub row-next : (d : ℕ) (ns : List ℕ) → Row v d ns → {m n : ℕ} → Memᴰ m ns → Memᴰ n ns → (v.node n).fence < (v.node m).fence
+      → ((v.node n).sibling ≢ 0) × ((v.node (v.node n).sibling).fence ≤ (v.node m).fence)
   row-next d ns r {m} {n} i k f = go (row-place d ns r k)
     where
-      either : ((v.node m).fence ≤ (v.node n).fence) ⊎ ((v.node (v.node n).sibling).fence ≤ (v.node m).fence) → (v.node (v.node n).sibling).fence ≤ (v.node m).fence
+      either : ((v.node m).fence ≤ (v.node n).fence) ⊎ ((v.node (v.node n).sibling).fence ≤ (v.node m).fence)
+          → (v.node (v.node n).sibling).fence ≤ (v.node m).fence
       either (inl x) = absurd (omega arith)
       either (inr x) = x
 

@@ -1,22 +1,19 @@
--- From the sentences of "Sound tables" to the test: every reached node is good, none is listed twice, and what is unfinished is the leftover.
-use mathlib.Core.Path.{◌≡◌, refl, ap, sym, ◌∙◌, subst}
-use mathlib.Core.Bool.{Bool, true, false}
-use mathlib.Core.Logic.{◌≢◌, ◌⊎◌, inl, inr}
+-- From the sentences of "Sound tables" to the test: every reached node is good, none is listed twice, and what is unfinished is the
+-- leftover.
+use Rattle.std.proofs.Common.{◌≡◌, ℕ, zero, suc, ◌<◌, ◌≤◌, Bool, true, false, eqb, ◌≢◌, ◌⊎◌, List, [], ◌∷◌, map, length, sym, refl, ap, ◌∙◌}
+use Rattle.std.proofs.Common.{subst, inl, inr, arith, length-append, lt-ltb, eq-eqb, ne_eqb}
 use mathlib.Core.List.Memᴰ
-use mathlib.Core.List.{List, [], ◌∷◌, map, Memᴰ}
+use mathlib.Core.List.{Memᴰ}
 use mathlib.Core.Option.{some}
-use Prim.Native.Nat.{ℕ, zero, suc, ◌≤◌, ◌<◌}
-use native.Mathlib.Omega.{arith}
-use lib.Dec.{eqb}
-use lib.ListN.{length, length-append}
-use borrow.Author.Tests.{eq-eqb, ne_eqb, lt-ltb}
 use Rattle.model.specs.Table.{in_range}
 use Rattle.model.specs.Slots.{Slot, slot, View, height, recording, class}
 use Rattle.model.specs.Search.{within}
 use Rattle.model.specs.Reached.{kept, named, next_child, fill_row, children, reached, leaves, mapping}
-use Rattle.model.specs.SoundTest.{all, distinct, sibling_ok, come_first, keys_ok, linked, child_ok, slot_ok, leaf_ok, inner_ok, node_ok, pair_ok, recordings_ok, orderly, Leftover, nothing, hidden_in, missing_in, both_in, leftover, room}
+use Rattle.model.specs.SoundTest.{all, distinct, sibling_ok, come_first, keys_ok, linked, child_ok, slot_ok, leaf_ok, inner_ok, node_ok}
+use Rattle.model.specs.SoundTest.{pair_ok, recordings_ok, orderly, Leftover, nothing, hidden_in, missing_in, both_in, leftover, room}
 use Rattle.model.specs.SoundTest.{has_room}
-use Rattle.model.specs.Sound.{Reached, at-root, by-sibling, Child, left-child, Lacks, Trails, Hides, SettledBut, OneHidden, LacksSlot, TrailingSlots, IsLeft}
+use Rattle.model.specs.Sound.{Reached, at-root, by-sibling, Child, left-child, Lacks, Trails, Hides, SettledBut, OneHidden, LacksSlot}
+use Rattle.model.specs.Sound.{TrailingSlots, IsLeft}
 use Rattle.view_laws.proofs.NodeViews.{level_of, fence_of}
 use Rattle.list_laws.proofs.Tools.{and-iff, leb-iff, same-or-not, Each, Each-map, all-each}
 use Rattle.list_laws.proofs.Members.{mem-each, index-of, map-flat}
@@ -29,8 +26,10 @@ use Rattle.tree_laws.proofs.Kept.{kept-within, first-part, each-first}
 use Rattle.tree_laws.proofs.Leftovers.{names-linked, NoneMissing, HiddenOnly, TrailingOnly, MissingOnly, Left, leftover-iff}
 use Rattle.sound_laws.proofs.Neighbours.{Follows, in-follows, Lost, in-fill, linked-fill, lost-linked, lost-gap}
 use Rattle.sound_laws.proofs.Leftovers.{lacks-or, MissingAt, Shortage, shortage, shortage-same}
-use Rattle.sound_laws.proofs.Joined.{Joined, Stray, in-kept, kept-child, child-named, named-child, child-inner, child-reached, parent-same, named-ascend, reached-level, gap-child, gap-parent, gap-reached, gap-next, gap-sibling}
-use Rattle.sound_laws.proofs.Listed.{rows-all, AllGood, listed-reached, reached-listed, listed-distinct, leaf-listed, leaves-distinct, mapped}
+use Rattle.sound_laws.proofs.Joined.{Joined, Stray, in-kept, kept-child, child-named, named-child, child-inner, child-reached, parent-same}
+use Rattle.sound_laws.proofs.Joined.{named-ascend, reached-level, gap-child, gap-parent, gap-reached, gap-next, gap-sibling}
+use Rattle.sound_laws.proofs.Listed.{rows-all, AllGood, listed-reached, reached-listed, listed-distinct, leaf-listed, leaves-distinct}
+use Rattle.sound_laws.proofs.Listed.{mapped}
 
 positive : {n : ℕ} → n ≢ 0 → 1 ≤ n
 positive z = omega arith
@@ -64,7 +63,8 @@ module _ (v : View) (x : Leftover) (s : SettledBut v x) (i : IsLeft v x) where
 
   module _ {p a c : ℕ} (r : Reached v p) (l : 0 < (v.node p).level) (o : Lost v (named v p) (next_child v p) a c) where
     lost-stray : Stray v a c (v.node a).sibling
-    lost-stray = gap-sibling v j r l o.follows (gap-reached v j r l o.follows) refl (omega arith) (λ z. (gap-next v j r l o.follows z).2) o.other
+    lost-stray = gap-sibling v j r l o.follows (gap-reached v j r l o.follows) refl (omega arith)
+        (λ z. (gap-next v j r l o.follows z).2) o.other
 
     lost-reached : Reached v (v.node a).sibling
     lost-reached = by-sibling (gap-reached v j r l o.follows) lost-stray.there
@@ -117,12 +117,15 @@ module _ (v : View) (x : Leftover) (s : SettledBut v x) (i : IsLeft v x) where
   fill-reached : {p : ℕ} → Reached v p → 0 < (v.node p).level → (c : ℕ) → Memᴰ c (row_of p) → Reached v c × (in_range v.nodes c ≡ true)
   fill-reached {p} r l c m = go (in-fill v (next_child v p) (named v p) m)
     where
-      go : Memᴰ c (named v p) ⊎ ((a : ℕ) × (e : ℕ) × Lost v (named v p) (next_child v p) a e × (c ≡ (v.node a).sibling)) → Reached v c × (in_range v.nodes c ≡ true)
+      go : Memᴰ c (named v p) ⊎ ((a : ℕ) × (e : ℕ) × Lost v (named v p) (next_child v p) a e × (c ≡ (v.node a).sibling)) → Reached v c
+          × (in_range v.nodes c ≡ true)
       go (inl k) = let d = named-child v p l k in let h = j.child-number r d in (child-reached v r d, (range-iff _ _).1 h)
       go (inr u) =
           let z = (lost-stray r l u.2).there in
-          let ra = gap-reached v j r l u.2.follows in
-          (subst (Reached v) (sym u.3) (by-sibling ra z), subst (λ (n : ℕ). in_range v.nodes n ≡ true) (sym u.3) ((range-iff _ _).1 (positive z, s.sibling-number ra z)))
+          let ra = gap-reached v j r l u.2.follows in (
+            subst (Reached v) (sym u.3) (by-sibling ra z),
+            subst (λ (n : ℕ). in_range v.nodes n ≡ true) (sym u.3) ((range-iff _ _).1 (positive z, s.sibling-number ra z)),
+          )
 
   children-reached : (n c : ℕ) → Reached v n → Memᴰ c (children v n) → Reached v c
   children-reached n c r m = go (v.node n).level refl
@@ -135,15 +138,19 @@ module _ (v : View) (x : Leftover) (s : SettledBut v x) (i : IsLeft v x) where
   comes-first {n} r = go x (s.keys-below r) i
     where
       plain : (v.node n).shown ≡ kept v n → come_first (λ (u : Slot). within v n u.key) (v.node n).shown ≡ true
-      plain e = subst (λ (us : List Slot). come_first (λ (u : Slot). within v n u.key) us ≡ true) (sym e) (each-first _ (kept v n) (kept-within v n))
+      plain e = subst (λ (us : List Slot). come_first (λ (u : Slot). within v n u.key) us ≡ true) (sym e)
+          (each-first _ (kept v n) (kept-within v n))
 
-      trailing : (a : ℕ) → ((n ≡ a → ⊥) → (v.node n).shown ≡ kept v n) → TrailingSlots v a → (n ≡ a) ⊎ (n ≢ a) → come_first (λ (u : Slot). within v n u.key) (v.node n).shown ≡ true
+      trailing : (a : ℕ) → ((n ≡ a → ⊥) → (v.node n).shown ≡ kept v n) → TrailingSlots v a → (n ≡ a) ⊎ (n ≢ a)
+          → come_first (λ (u : Slot). within v n u.key) (v.node n).shown ≡ true
       trailing a h t (inl e) = subst (λ (k : ℕ). come_first (λ (u : Slot). within v k u.key) (v.node k).shown ≡ true) (sym e)
           (subst (λ (us : List Slot). come_first (λ (u : Slot). within v a u.key) us ≡ true) (sym t.last)
-          (first-part _ (kept v a) t.ignored (kept-within v a) (mem-each (λ (u : Slot). within v a u.key ≡ false) t.ignored (λ u m. t.from-b-up m))).1)
+          (first-part _ (kept v a) t.ignored (kept-within v a)
+          (mem-each (λ (u : Slot). within v a u.key ≡ false) t.ignored (λ u m. t.from-b-up m))).1)
       trailing a h t (inr z) = plain (h z)
 
-      go : (y : Leftover) → ((Trails y n → ⊥) → (v.node n).shown ≡ kept v n) → IsLeft v y → come_first (λ (u : Slot). within v n u.key) (v.node n).shown ≡ true
+      go : (y : Leftover) → ((Trails y n → ⊥) → (v.node n).shown ≡ kept v n) → IsLeft v y
+          → come_first (λ (u : Slot). within v n u.key) (v.node n).shown ≡ true
       go nothing h y = plain (h (λ t. t))
       go (hidden_in q) h y = plain (h (λ t. t))
       go (missing_in p a true) h y = trailing a h y.1 (same-or-not n a)
@@ -152,7 +159,8 @@ module _ (v : View) (x : Leftover) (s : SettledBut v x) (i : IsLeft v x) where
 
   keys-ok : {n : ℕ} (low : ℕ) → Reached v n → ((u : Slot) → Memᴰ u (kept v n) → low ≤ u.key) → keys_ok v n low ≡ true
   unfolding keys_ok
-  keys-ok {n} low r h = (and-iff _ _).1 (rising-from-rise low (kept v n) (s.keys-rise r) (mem-each (λ (u : Slot). low ≤ u.key) (kept v n) h), comes-first r)
+  keys-ok {n} low r h =
+      (and-iff _ _).1 (rising-from-rise low (kept v n) (s.keys-rise r) (mem-each (λ (u : Slot). low ≤ u.key) (kept v n) h), comes-first r)
 
   sibling-ok : {n : ℕ} → Reached v n → sibling_ok v n ≡ true
   unfolding sibling_ok
@@ -162,7 +170,10 @@ module _ (v : View) (x : Leftover) (s : SettledBut v x) (i : IsLeft v x) where
       go (inl e) = rw (eq-eqb (v.node n).sibling 0 e, sibling_ok)
       go (inr z) =
           rw (ne_eqb (v.node n).sibling 0 z, sibling_ok)
-          ((and-iff _ _).1 ((range-iff _ _).1 (positive z, s.sibling-number r z), (and-iff _ _).1 (eq-eqb _ _ (s.sibling-level r z), lt-ltb _ _ (s.sibling-right r z))))
+          ((and-iff _ _).1 (
+            (range-iff _ _).1 (positive z, s.sibling-number r z),
+            (and-iff _ _).1 (eq-eqb _ _ (s.sibling-level r z), lt-ltb _ _ (s.sibling-right r z)),
+          ))
 
   child-ok : (l k : ℕ) {c : ℕ} → suc (v.node c).level ≡ l → (v.node c).fence ≡ k → child_ok v l k c ≡ true
   unfolding child_ok
@@ -186,8 +197,11 @@ module _ (v : View) (x : Leftover) (s : SettledBut v x) (i : IsLeft v x) where
           (and-iff _ _).1 (
             slots-ok r l,
             (and-iff _ _).1 (
-              (all-each (in_range v.nodes) (children v n)).1 (subst (Each (λ (c : ℕ). in_range v.nodes c ≡ true)) (sym q) (mem-each (λ (c : ℕ). in_range v.nodes c ≡ true) (row_of n) (λ c m. (fill-reached r l c m).1))),
-              subst (λ (ks : List ℕ). linked v ks (next_child v n) ≡ true) (sym q) (linked-fill v (next_child v n) (named v n) (λ a c o. lost-next r l o)),
+              (all-each (in_range v.nodes) (children v n)).1
+                  (subst (Each (λ (c : ℕ). in_range v.nodes c ≡ true)) (sym q)
+                  (mem-each (λ (c : ℕ). in_range v.nodes c ≡ true) (row_of n) (λ c m. (fill-reached r l c m).1))),
+              subst (λ (ks : List ℕ). linked v ks (next_child v n) ≡ true) (sym q)
+                  (linked-fill v (next_child v n) (named v n) (λ a c o. lost-next r l o)),
             ),
           ),
         ),
@@ -201,7 +215,8 @@ module _ (v : View) (x : Leftover) (s : SettledBut v x) (i : IsLeft v x) where
   unfolding node_ok
   node-ok {n} r = (and-iff _ _).1 (s.words-zero r, (and-iff _ _).1 (sibling-ok r, go (v.node n).level refl))
     where
-      go : (d : ℕ) → (v.node n).level ≡ d → elim (eqb (v.node n).level 0) as (λ b. Bool) [ true ↦ leaf_ok v n | false ↦ inner_ok v n ] ≡ true
+      go : (d : ℕ) → (v.node n).level ≡ d
+          → elim (eqb (v.node n).level 0) as (λ b. Bool) [ true ↦ leaf_ok v n | false ↦ inner_ok v n ] ≡ true
       go zero e = rw (eq-eqb (v.node n).level 0 e) (leaf-ok r e)
       go (suc d) e = rw (ne_eqb (v.node n).level 0 (λ q. omega arith)) (inner-ok d r e)
 
@@ -210,7 +225,11 @@ module _ (v : View) (x : Leftover) (s : SettledBut v x) (i : IsLeft v x) where
     root-facts = record { range = range; level = s.root-level; fence = s.root-fence; sibling = s.root-sibling }
 
     pub all-good : AllGood v
-    all-good = record { top = root-facts; good = Each-map (Reached v) (Good v) (reached v) (λ n r. node-ok r) (rows-all v (Reached v) children-reached (height v) (v.root ∷ []) (at-root, tt)) }
+    all-good = record {
+      top = root-facts;
+      good = Each-map (Reached v) (Good v) (reached v) (λ n r. node-ok r)
+          (rows-all v (Reached v) children-reached (height v) (v.root ∷ []) (at-root, tt));
+    }
 
     -- ---- recording numbers
 
@@ -219,7 +238,8 @@ module _ (v : View) (x : Leftover) (s : SettledBut v x) (i : IsLeft v x) where
 
     leaf-once : (n : ℕ) → Memᴰ n (leaves v) → distinct (recordings n) ≡ true
     unfolding recordings
-    leaf-once n m = let u = leaf-listed v all-good m in once-distinct recording (slot 0 0) (kept v n) (λ a b h k e. (s.recording-once u.0 u.1 h u.0 u.1 k e).1)
+    leaf-once n m = let u =
+        leaf-listed v all-good m in once-distinct recording (slot 0 0) (kept v n) (λ a b h k e. (s.recording-once u.0 u.1 h u.0 u.1 k e).1)
 
     leaves-once : (m n c : ℕ) → Memᴰ m (leaves v) → Memᴰ n (leaves v) → Memᴰ c (recordings m) → Memᴰ c (recordings n) → m ≡ n
     unfolding recordings
@@ -238,12 +258,17 @@ module _ (v : View) (x : Leftover) (s : SettledBut v x) (i : IsLeft v x) where
         (recordings-iff (mapping v)).1 (
           mem-each (λ (u : Slot). pair_ok u ≡ true) (mapping v) (λ u m.
               let w = mapped v all-good m in
-              (pair-iff u).1 ((recording-iff (recording u)).1 (s.recording-number w.1 w.2 w.3), (class-iff (class u)).1 (s.class-number w.1 w.2 w.3))),
-          subst (λ (l : List ℕ). distinct l ≡ true) (sym (map-flat recording (kept v) (leaves v))) (distinct-flat recordings (leaves v) (leaves-distinct v all-good) leaf-once leaves-once),
+              (pair-iff u).1 (
+                (recording-iff (recording u)).1 (s.recording-number w.1 w.2 w.3),
+                (class-iff (class u)).1 (s.class-number w.1 w.2 w.3),
+              )),
+          subst (λ (l : List ℕ). distinct l ≡ true) (sym (map-flat recording (kept v) (leaves v)))
+              (distinct-flat recordings (leaves v) (leaves-distinct v all-good) leaf-once leaves-once),
         )
 
     pub orderly-ok : orderly v ≡ true
-    orderly-ok = (orderly-iff v).1 (record { top = root-facts; good = all-good.good; once = listed-distinct v all-good; recordings = recordings-ok })
+    orderly-ok = (orderly-iff v).1
+        (record { top = root-facts; good = all-good.good; once = listed-distinct v all-good; recordings = recordings-ok })
 
     -- ---- what is unfinished
 
@@ -251,10 +276,13 @@ module _ (v : View) (x : Leftover) (s : SettledBut v x) (i : IsLeft v x) where
     listed P h = mem-each P (reached v) (λ n m. h n (listed-reached v all-good m))
 
     hidden-only : {q : ℕ} → OneHidden v q → ((n : ℕ) → Reached v n → n ≢ q → (v.node n).hidden ≡ 0) → HiddenOnly v q
-    hidden-only {q} o h = record { member = reached-listed v all-good o.0; here = o.1; others = listed (λ (n : ℕ). n ≢ q → (v.node n).hidden ≡ 0) h }
+    hidden-only {q} o h =
+        record { member = reached-listed v all-good o.0; here = o.1; others = listed (λ (n : ℕ). n ≢ q → (v.node n).hidden ≡ 0) h }
 
-    trailing-only : {a : ℕ} → Reached v a → TrailingSlots v a → ((n : ℕ) → Reached v n → n ≢ a → kept v n ≡ (v.node n).shown) → TrailingOnly v a
-    trailing-only {a} r t h = record { member = reached-listed v all-good r; here = longer; others = listed (λ (n : ℕ). n ≢ a → kept v n ≡ (v.node n).shown) h }
+    trailing-only : {a : ℕ} → Reached v a → TrailingSlots v a
+        → ((n : ℕ) → Reached v n → n ≢ a → kept v n ≡ (v.node n).shown) → TrailingOnly v a
+    trailing-only {a} r t h =
+        record { member = reached-listed v all-good r; here = longer; others = listed (λ (n : ℕ). n ≢ a → kept v n ≡ (v.node n).shown) h }
       where
         longer : kept v a ≢ (v.node a).shown
         longer e = let h = ap length t.last ∙ length-append (kept v a) t.ignored in let k = t.some-are in let q = ap length e in omega arith
@@ -272,7 +300,8 @@ module _ (v : View) (x : Leftover) (s : SettledBut v x) (i : IsLeft v x) where
       inner-p = child-inner v k.parent.1
 
       lost-there : (c : ℕ) → Follows (next_child v p) a c (named v p) → (v.node a).sibling ≡ c → ⊥
-      lost-there c f q = let u = gap-parent v j k.parent.0 inner-p f (λ z. k.b-there (q ∙ z)) in k.b-lacks u.1 (subst (Child v u.0) (sym q) u.2)
+      lost-there c f q = let u =
+          gap-parent v j k.parent.0 inner-p f (λ z. k.b-there (q ∙ z)) in k.b-lacks u.1 (subst (Child v u.0) (sym q) u.2)
 
       missing-only : MissingOnly v p a
       missing-only =
@@ -280,17 +309,24 @@ module _ (v : View) (x : Leftover) (s : SettledBut v x) (i : IsLeft v x) where
           let d = row-distinct v (named v p) (named-ascend v j k.parent.0 inner-p) in
           record {
             member = reached-listed v all-good k.parent.0;
-            here = ((λ z. omega (arith, inner-p)), lost-gap v (named v p) d (record { follows = u.1; other = lost-there u.0 u.1 }) (λ b c o. (at p b c k.parent.0 inner-p o).1));
-            others = listed (λ (n : ℕ). n ≢ p → (v.node n).level ≢ 0 → children v n ≡ named v n) (λ n r z i. no-lost n (λ b c o. z (at n b c r (positive i) o).0) i);
+            here = (
+              (λ z. omega (arith, inner-p)),
+              lost-gap v (named v p) d (record { follows = u.1; other = lost-there u.0 u.1 })
+                  (λ b c o. (at p b c k.parent.0 inner-p o).1),
+            );
+            others = listed (λ (n : ℕ). n ≢ p → (v.node n).level ≢ 0 → children v n ≡ named v n)
+                (λ n r z i. no-lost n (λ b c o. z (at n b c r (positive i) o).0) i);
           }
 
     none-missing : EachLost (λ (q b : ℕ). ⊥) → NoneMissing v
-    none-missing h = listed (λ (n : ℕ). (v.node n).level ≢ 0 → children v n ≡ named v n) (λ n r i. no-lost n (λ b c o. h n b c r (positive i) o) i)
+    none-missing h = listed (λ (n : ℕ). (v.node n).level ≢ 0 → children v n ≡ named v n)
+        (λ n r i. no-lost n (λ b c o. h n b c r (positive i) o) i)
 
     left-is : Left v x
     left-is = go x i (λ n r z. s.none-hidden r z) (λ n r z. sym (s.keys-below r z)) (λ q b c r l o. lost-at r l o)
       where
-        go : (y : Leftover) → IsLeft v y → ((n : ℕ) → Reached v n → (Hides y n → ⊥) → (v.node n).hidden ≡ 0) → ((n : ℕ) → Reached v n → (Trails y n → ⊥) → kept v n ≡ (v.node n).shown) → EachLost (MissingAt y) → Left v y
+        go : (y : Leftover) → IsLeft v y → ((n : ℕ) → Reached v n → (Hides y n → ⊥) → (v.node n).hidden ≡ 0)
+            → ((n : ℕ) → Reached v n → (Trails y n → ⊥) → kept v n ≡ (v.node n).shown) → EachLost (MissingAt y) → Left v y
         go nothing k h t m = (listed _ (λ n r. h n r (λ z. z)), listed _ (λ n r. t n r (λ z. z)), none-missing m)
         go (hidden_in q) k h t m = (hidden-only k h, listed _ (λ n r. t n r (λ z. z)), none-missing m)
         go (missing_in p a false) k h t m = (listed _ (λ n r. h n r (λ z. z)), listed _ (λ n r. t n r (λ z. z)), missing-only k m)

@@ -1,19 +1,16 @@
 -- From the test to the sentences of "Sound tables": what each listed node shows, and the leftover that what is unfinished amounts to.
-use mathlib.Core.Path.{◌≡◌, refl, ap, sym, ◌∙◌, subst}
-use mathlib.Core.Bool.{true, false, not}
-use mathlib.Core.Logic.{◌≢◌, ◌⊎◌, inl, inr}
+use Rattle.std.proofs.Common.{◌≡◌, ℕ, zero, suc, ◌+◌, ◌<◌, ◌≤◌, true, false, not, ◌≢◌, ◌⊎◌, List, ◌++◌, map, length, get_or, sym, refl, ap}
+use Rattle.std.proofs.Common.{◌∙◌, subst, inl, inr, arith, length-append, leb-true}
 use mathlib.Core.List.Memᴰ
-use mathlib.Core.List.{List, ◌++◌, map, Memᴰ}
-use Prim.Native.Nat.{ℕ, zero, suc, ◌+◌, ◌≤◌, ◌<◌}
-use native.Mathlib.Omega.{arith}
-use lib.ListN.{length, length-append, get_or}
-use borrow.Author.Tests.{leb-true, not-true}
+use mathlib.Core.List.{Memᴰ}
+use borrow.Author.Tests.{not-true}
 use Rattle.model.specs.Table.{MARK, in_range}
 use Rattle.model.specs.Slots.{Slot, slot, View, recording, class, recording_ok, class_ok}
 use Rattle.model.specs.Search.{within, route, down}
 use Rattle.model.specs.Reached.{flat, kept, named, next_child, children, reached, leaves, mapping}
 use Rattle.model.specs.SoundTest.{distinct, leaf_ok, node_ok, pair_ok, Leftover, nothing, hidden_in, missing_in, both_in, room, has_room}
-use Rattle.model.specs.Sound.{Reached, by-sibling, Child, left-child, slot-child, Lacks, SettledBut, OneHidden, LacksSlot, TrailingSlots, IsLeft}
+use Rattle.model.specs.Sound.{Reached, by-sibling, Child, left-child, slot-child, Lacks, SettledBut, OneHidden, LacksSlot, TrailingSlots}
+use Rattle.model.specs.Sound.{IsLeft}
 use Rattle.view_laws.proofs.NodeViews.{level_of}
 use Rattle.list_laws.proofs.Tools.{decode, and-iff, Each, all-each}
 use Rattle.list_laws.proofs.Members.{each-mem, mem-each, get_d-in, mem-flat, map-flat}
@@ -30,7 +27,8 @@ use Rattle.tree_laws.proofs.Leftovers.{HiddenOnly, TrailingOnly, MissingOnly, Le
 use Rattle.sound_laws.proofs.Neighbours.{there, Lost, in-fill, gap-lost}
 use Rattle.sound_laws.proofs.Fences.{row-next}
 use Rattle.sound_laws.proofs.Leftovers.{none-hidden, keeps-all, keeps-else, keys-below, lost-lacks}
-use Rattle.sound_laws.proofs.Joined.{Joined, Stray, kept-in, kept-child, named-child, child-inner, parent-same, sibling-same, named-ascend, gap-child, gap-reached, gap-next, gap-sibling}
+use Rattle.sound_laws.proofs.Joined.{Joined, Stray, kept-in, kept-child, named-child, child-inner, parent-same, sibling-same, named-ascend}
+use Rattle.sound_laws.proofs.Joined.{gap-child, gap-reached, gap-next, gap-sibling}
 use Rattle.sound_laws.proofs.Routing.{route-follows}
 use Rattle.sound_laws.proofs.Listed.{AllGood, orderly-good, child-children, reached-listed, listed-reached, listed-leaf}
 
@@ -61,15 +59,20 @@ module _ (v : View) (o : Orderly v) where
 
   child-level : {p c : ℕ} → Reached v p → Child v p c → suc (v.node c).level ≡ (v.node p).level
   child-level {p} r (left-child l) = let f = inner-facts r l in let a = f.facts.left_level in let b = f.level in omega arith
-  child-level {p} r (slot-child l m k) = let f = inner-facts r l in let a = (named-slot r l (kept-in v m k)).level in let b = f.level in omega arith
+  child-level {p} r (slot-child l m k) = let f = inner-facts r l in let a =
+      (named-slot r l (kept-in v m k)).level in let b = f.level in omega arith
 
   child-number : {p c : ℕ} → Reached v p → Child v p c → (1 ≤ c) × (c ≤ v.nodes)
   child-number {p} {c} r k =
       let f = inner-facts r (child-inner v k) in
-      (range-iff v.nodes c).0 (each-mem (λ (n : ℕ). in_range v.nodes n ≡ true) ((all-each (in_range v.nodes) (children v p)).0 f.facts.range) (child-children v w k))
+      (range-iff v.nodes c).0
+      (each-mem (λ (n : ℕ). in_range v.nodes n ≡ true)
+      ((all-each (in_range v.nodes) (children v p)).0 f.facts.range) (child-children v w k))
 
   keys-above : {n : ℕ} {s : Slot} → Reached v n → 0 < (v.node n).level → Memᴰ s (kept v n) → (v.node n).fence < s.key
-  keys-above {n} r l m = let u = above-zero (v.node n).level l in each-mem (λ (s : Slot). suc (v.node n).fence ≤ s.key) (rising-from (suc (v.node n).fence) (kept v n) (inner-rises v u.0 n (good-of r) u.1)) m
+  keys-above {n} r l m = let u =
+      above-zero (v.node n).level l in each-mem (λ (s : Slot). suc (v.node n).fence ≤ s.key)
+      (rising-from (suc (v.node n).fence) (kept v n) (inner-rises v u.0 n (good-of r) u.1)) m
 
   -- two nodes of one row
   record Together (m n : ℕ) : Type 0 where
@@ -84,7 +87,13 @@ module _ (v : View) (o : Orderly v) where
   together {m} {n} rm rn e =
       let a = reached-row v m o (reached-listed v w rm) in
       let b = reached-row v n o (reached-listed v w rn) in
-      record { level = (v.node m).level; row = row_at v (v.node m).level; is-row = (level-at v (v.node m).level o a.level).row; one = a.row; other = subst (λ (d : ℕ). Memᴰ n (row_at v d)) (sym e) b.row }
+      record {
+        level = (v.node m).level;
+        row = row_at v (v.node m).level;
+        is-row = (level-at v (v.node m).level o a.level).row;
+        one = a.row;
+        other = subst (λ (d : ℕ). Memᴰ n (row_at v d)) (sym e) b.row;
+      }
 
   siblings : {n : ℕ} → Reached v n → (v.node n).sibling ≢ 0 → SibFacts v n
   siblings {n} r z = sib-facts v n (good-of r) z
@@ -122,21 +131,29 @@ module _ (v : View) (o : Orderly v) where
 
   recordings-once : distinct (flat recordings (leaves v)) ≡ true
   unfolding recordings mapping
-  recordings-once = subst (λ (l : List ℕ). distinct l ≡ true) (map-flat recording (kept v) (leaves v)) ((recordings-iff (mapping v)).0 o.recordings).1
+  recordings-once = subst (λ (l : List ℕ). distinct l ≡ true) (map-flat recording (kept v) (leaves v))
+      ((recordings-iff (mapping v)).0 o.recordings).1
 
-  leaf-once : {n : ℕ} → Reached v n → (v.node n).level ≡ 0 → Each (λ (s : Slot). pair_ok s ≡ true) (kept v n) × (distinct (recordings n) ≡ true)
+  leaf-once : {n : ℕ} → Reached v n → (v.node n).level ≡ 0 → Each (λ (s : Slot). pair_ok s ≡ true) (kept v n)
+      × (distinct (recordings n) ≡ true)
   unfolding recordings
   leaf-once {n} r e = (recordings-iff (kept v n)).0 (leaf-recordings v n o (listed-leaf v o r e))
 
-  recording-once : {m n a b : ℕ} → Reached v m → (v.node m).level ≡ 0 → a < length (kept v m) → Reached v n → (v.node n).level ≡ 0 → b < length (kept v n)
+  recording-once : {m n a b : ℕ} → Reached v m → (v.node m).level ≡ 0 → a < length (kept v m) → Reached v n → (v.node n).level
+      ≡ 0 → b < length (kept v n)
       → recording (get_or (kept v m) a (slot 0 0)) ≡ recording (get_or (kept v n) b (slot 0 0)) → (m ≡ n) × (a ≡ b)
   unfolding recordings
   recording-once {m} {n} {a} {b} rm em ha rn en hb e =
-      let q = flat-apart recordings (leaves v) recordings-once (listed-leaf v o rm em) (listed-leaf v o rn en) (Memᴰ.map recording (get_d-in (slot 0 0) (kept v m) a ha))
-      (Memᴰ.cast e (Memᴰ.map recording (get_d-in (slot 0 0) (kept v n) b hb))) in
-      (q, distinct-once recording (slot 0 0) (kept v m) a b (leaf-once rm em).1 ha (subst (λ (k : ℕ). b < length (kept v k)) (sym q) hb) (e ∙ ap (λ (k : ℕ). recording (get_or (kept v k) b (slot 0 0))) (sym q)))
+      let q = flat-apart recordings (leaves v) recordings-once (listed-leaf v o rm em) (listed-leaf v o rn en)
+      (Memᴰ.map recording (get_d-in (slot 0 0) (kept v m) a ha))
+      (Memᴰ.cast e (Memᴰ.map recording (get_d-in (slot 0 0) (kept v n) b hb))) in (
+        q,
+        distinct-once recording (slot 0 0) (kept v m) a b (leaf-once rm em).1 ha (subst (λ (k : ℕ). b < length (kept v k)) (sym q) hb)
+            (e ∙ ap (λ (k : ℕ). recording (get_or (kept v k) b (slot 0 0))) (sym q)),
+      )
 
-  pair-ok : {n : ℕ} {s : Slot} → Reached v n → (v.node n).level ≡ 0 → Memᴰ s (kept v n) → (recording_ok (recording s) ≡ true) × (class_ok (class s) ≡ true)
+  pair-ok : {n : ℕ} {s : Slot} → Reached v n → (v.node n).level ≡ 0 → Memᴰ s (kept v n) → (recording_ok (recording s) ≡ true)
+      × (class_ok (class s) ≡ true)
   pair-ok {n} {s} r e m = (pair-iff s).0 (each-mem (λ (u : Slot). pair_ok u ≡ true) (leaf-once r e).0 m)
 
   -- ---- what each leftover says
@@ -155,7 +172,8 @@ module _ (v : View) (o : Orderly v) where
       split : (v.node a).shown ≡ kept v a ++ ignored v a
       split = shown-split v a (each-mem (Good v) o.good h.member)
 
-      longer : length (kept v a) ≢ length (v.node a).shown → length (v.node a).shown ≡ length (kept v a) + length (ignored v a) → 0 < length (ignored v a)
+      longer : length (kept v a) ≢ length (v.node a).shown → length (v.node a).shown ≡ length (kept v a) + length (ignored v a)
+          → 0 < length (ignored v a)
       longer n e = omega arith
 
   -- a sibling that is missing is lost in the row of p
@@ -166,7 +184,8 @@ module _ (v : View) (o : Orderly v) where
     pub lost : Lost v (named v p) (next_child v p) a next
 
   lost-in : {p a : ℕ} → MissingOnly v p a → LostIn p a
-  lost-in {p} g = record { parent = listed-reached v w g.member; inner = let z = g.here.0 in omega arith; next = _; lost = gap-lost v (named v p) g.here.1 }
+  lost-in {p} g = record
+      { parent = listed-reached v w g.member; inner = let z = g.here.0 in omega arith; next = _; lost = gap-lost v (named v p) g.here.1 }
 
   -- it is a child of p, so another node
   missing-child : {p a : ℕ} → MissingOnly v p a → Child v p a
@@ -197,7 +216,8 @@ module _ (v : View) (o : Orderly v) where
       ra = gap-reached v j t.parent t.inner t.lost.follows
 
       stray : Stray v a t.next (v.node a).sibling
-      stray = gap-sibling v j t.parent t.inner t.lost.follows ra refl (omega arith) (λ z. (gap-next v j t.parent t.inner t.lost.follows z).2) t.lost.other
+      stray = gap-sibling v j t.parent t.inner t.lost.follows ra refl (omega arith)
+          (λ z. (gap-next v j t.parent t.inner t.lost.follows z).2) t.lost.other
 
       routes : down v p (v.node (v.node a).sibling).fence ≡ a
       routes =
@@ -206,7 +226,8 @@ module _ (v : View) (o : Orderly v) where
           ap (route k (v.node p).left) (sym plain)
           ∙ route-follows v k (v.node p).left (kept v p) (named-ascend v j t.parent t.inner)
           (mem-each (λ (s : Slot). (v.node s.pointer).fence ≡ s.key) (kept v p) (λ s m. (named-slot t.parent t.inner m).fence))
-          (mem-each (λ (s : Slot). s.pointer ≢ 0) (kept v p) (λ s m q. let h = child-number t.parent (kept-child v p t.inner m) in omega arith))
+          (mem-each (λ (s : Slot). s.pointer ≢ 0) (kept v p)
+          (λ s m q. let h = child-number t.parent (kept-child v p t.inner m) in omega arith))
           t.lost.follows (omega arith) stray.below
 
   -- ---- the leftover, and settled but for it
@@ -219,19 +240,22 @@ module _ (v : View) (o : Orderly v) where
   is-left (both_in p a) l f = (lacks-slot l.2 (keeps-all v l.2.member l.1) f, one-hidden l.0)
 
   module _ (x : Leftover) (l : Left v x) where
-    one-parent : {c : ℕ} → Reached v c → c ≢ v.root → (Lacks v x c → ⊥) → (p : ℕ) × Reached v p × Child v p c × ((q : ℕ) → Reached v q → Child v q c → q ≡ p)
+    one-parent : {c : ℕ} → Reached v c → c ≢ v.root → (Lacks v x c → ⊥) → (p : ℕ) × Reached v p × Child v p c
+        × ((q : ℕ) → Reached v q → Child v q c → q ≡ p)
     one-parent {c} r z n = go (Memᴰ.cases_cons (rw (reached-children v o) at (reached-listed v w r)))
       where
         Parent : Type 0
         Parent = (p : ℕ) × Reached v p × Child v p c × ((q : ℕ) → Reached v q → Child v q c → q ≡ p)
 
-        in-row : (p : ℕ) → Reached v p → 0 < (v.node p).level → Memᴰ c (named v p) ⊎ ((a : ℕ) × (e : ℕ) × Lost v (named v p) (next_child v p) a e × (c ≡ (v.node a).sibling)) → Parent
+        in-row : (p : ℕ) → Reached v p → 0 < (v.node p).level → Memᴰ c (named v p)
+            ⊎ ((a : ℕ) × (e : ℕ) × Lost v (named v p) (next_child v p) a e × (c ≡ (v.node a).sibling)) → Parent
         in-row p rp i (inl m) = let k = named-child v p i m in (p, rp, k, λ q rq h. parent-same v j rp k rq h)
         in-row p rp i (inr u) = absurd (n (subst (Lacks v x) (sym u.3) (lost-lacks v (reached-listed v w rp) i u.2 x l)))
 
         at-level : (p d : ℕ) → Reached v p → (v.node p).level ≡ d → Memᴰ c (children v p) → Parent
         at-level p zero rp e m = absurd (Memᴰ.not-nil (rw (no-children v p e) at m))
-        at-level p (suc d) rp e m = in-row p rp (omega arith) (in-fill v (next_child v p) (named v p) (subst (Memᴰ c) (children-inner v d p e) m))
+        at-level p (suc d) rp e m =
+            in-row p rp (omega arith) (in-fill v (next_child v p) (named v p) (subst (Memᴰ c) (children-inner v d p e) m))
 
         go : (c ≡ v.root) ⊎ Memᴰ c (flat (children v) (reached v)) → Parent
         go (inl e) = absurd (z e)

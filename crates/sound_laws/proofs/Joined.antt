@@ -1,11 +1,7 @@
 -- Levels joined from left to right: each node's children lie between its fence and its sibling's, and what no node has for a child.
-use mathlib.Core.Path.{◌≡◌, refl, ap, sym, ◌∙◌, subst}
-use mathlib.Core.Bool.{true}
-use mathlib.Core.Logic.{◌≢◌, ◌⊎◌, inl, inr}
+use Rattle.std.proofs.Common.{◌≡◌, ℕ, suc, ◌<◌, ◌≤◌, true, ◌≢◌, ◌⊎◌, sym, refl, ap, ◌∙◌, subst, inl, inr, arith}
 use mathlib.Core.List.Memᴰ
 use mathlib.Core.List.{Memᴰ}
-use Prim.Native.Nat.{ℕ, suc, ◌≤◌, ◌<◌}
-use native.Mathlib.Omega.{arith}
 use Rattle.model.specs.Slots.{Slot, View, height}
 use Rattle.model.specs.Search.{within}
 use Rattle.model.specs.Reached.{pointers, kept, named, first_child, next_child}
@@ -26,7 +22,8 @@ pub record Joined (v : View) : Type 0 where
   pub child-level : {p c : ℕ} → Reached v p → Child v p c → suc (v.node c).level ≡ (v.node p).level
   pub child-number : {p c : ℕ} → Reached v p → Child v p c → (1 ≤ c) × (c ≤ v.nodes)
   pub left-fence : {p : ℕ} → Reached v p → 0 < (v.node p).level → (v.node (v.node p).left).fence ≡ (v.node p).fence
-  pub slot-fence : {p : ℕ} {s : Slot} → Reached v p → 0 < (v.node p).level → Memᴰ s (v.node p).shown → within v p s.key ≡ true → (v.node s.pointer).fence ≡ s.key
+  pub slot-fence : {p : ℕ} {s : Slot} → Reached v p → 0 < (v.node p).level → Memᴰ s (v.node p).shown → within v p s.key ≡ true
+      → (v.node s.pointer).fence ≡ s.key
   pub keys-rise : {n : ℕ} → Reached v n → Rise (kept v n)
   pub keys-above : {n : ℕ} {s : Slot} → Reached v n → 0 < (v.node n).level → Memᴰ s (kept v n) → (v.node n).fence < s.key
   pub apart : {m n : ℕ} → Reached v m → Reached v n → (v.node m).level ≡ (v.node n).level → (v.node m).fence ≡ (v.node n).fence → m ≡ n
@@ -93,8 +90,10 @@ module _ (v : View) (j : Joined v) where
       same-level : (v.node p).level ≡ (v.node q).level
       same-level = let a = j.child-level r k in let b = j.child-level s h in omega arith
 
-      clash : {m n : ℕ} → Reached v m → Child v m c → Reached v n → Child v n c → (v.node m).level ≡ (v.node n).level → (v.node n).fence < (v.node m).fence → ⊥
-      clash rm km rn kn l f = let u = j.sibling-next rm rn l f in let b = child-below rn kn u.0 in let a = child-from rm km in omega (arith, u.1)
+      clash : {m n : ℕ} → Reached v m → Child v m c → Reached v n → Child v n c → (v.node m).level ≡ (v.node n).level
+          → (v.node n).fence < (v.node m).fence → ⊥
+      clash rm km rn kn l f = let u = j.sibling-next rm rn l f in let b = child-below rn kn u.0 in let a =
+          child-from rm km in omega (arith, u.1)
 
       go : ((v.node q).fence < (v.node p).fence) ⊎ (((v.node q).fence ≡ (v.node p).fence) ⊎ ((v.node p).fence < (v.node q).fence)) → q ≡ p
       go (inl f) = absurd (clash r k s h same-level f)
@@ -115,14 +114,18 @@ module _ (v : View) (j : Joined v) where
       same-fence = ap (fence_of v) e
 
       go : ((v.node m).fence < (v.node n).fence) ⊎ (((v.node m).fence ≡ (v.node n).fence) ⊎ ((v.node n).fence < (v.node m).fence)) → m ≡ n
-      go (inl f) = let u = j.sibling-next s r (sym same-level) f in let k = j.sibling-right s z in let h = same-fence in absurd (omega (arith, u.1))
+      go (inl f) = let u = j.sibling-next s r (sym same-level) f in let k = j.sibling-right s z in let h =
+          same-fence in absurd (omega (arith, u.1))
       go (inr (inl f)) = j.apart r s same-level f
-      go (inr (inr f)) = let u = j.sibling-next r s same-level f in let k = j.sibling-right r other in let h = same-fence in absurd (omega (arith, u.1))
+      go (inr (inr f)) = let u = j.sibling-next r s same-level f in let k = j.sibling-right r other in let h =
+          same-fence in absurd (omega (arith, u.1))
 
   pub named-ascend : {p : ℕ} → Reached v p → 0 < (v.node p).level → Ascending v (named v p)
   named-ascend {p} r l = (
-    mem-each (λ (m : ℕ). (v.node (v.node p).left).fence < (v.node m).fence) (pointers (kept v p)) (λ c m. higher c (Memᴰ.of_map (λ (s : Slot). s.pointer) (kept v p) m)),
-    slots-ascend v 0 (kept v p) (rising-from-rise 0 (kept v p) (j.keys-rise r) (mem-each (λ (s : Slot). 0 ≤ s.key) (kept v p) (λ s m. omega arith)))
+    mem-each (λ (m : ℕ). (v.node (v.node p).left).fence < (v.node m).fence) (pointers (kept v p))
+        (λ c m. higher c (Memᴰ.of_map (λ (s : Slot). s.pointer) (kept v p) m)),
+    slots-ascend v 0 (kept v p)
+        (rising-from-rise 0 (kept v p) (j.keys-rise r) (mem-each (λ (s : Slot). 0 ≤ s.key) (kept v p) (λ s m. omega arith)))
         (mem-each (λ (s : Slot). (v.node s.pointer).fence ≡ s.key) (kept v p) (λ s m. let u = in-kept v p m in j.slot-fence r l u.0 u.1)),
   )
     where
@@ -158,7 +161,8 @@ module _ (v : View) (j : Joined v) where
 
     -- the last child is followed by the left child of p's sibling
     next-there : (v.node p).sibling ≢ 0 → c ≡ next_child v p → Child v (v.node p).sibling c
-    next-there z e = subst (Child v (v.node p).sibling) (sym (e ∙ first-child v (v.node p).sibling z)) (left-child (let h = j.sibling-level r z in omega arith))
+    next-there z e = subst (Child v (v.node p).sibling) (sym (e ∙ first-child v (v.node p).sibling z))
+        (left-child (let h = j.sibling-level r z in omega arith))
 
     next-none : c ≡ next_child v p → c ≢ 0 → (v.node p).sibling ≢ 0
     next-none e z s = z (e ∙ ap (first_child v) s ∙ (unfold first_child in refl))
@@ -167,7 +171,8 @@ module _ (v : View) (j : Joined v) where
     pub gap-next : c ≢ 0 → Reached v c × ((v.node c).level ≡ (v.node a).level) × ((v.node a).fence < (v.node c).fence)
     gap-next z = go gap-place
       where
-        go : Place v (named v p) (next_child v p) a c → Reached v c × ((v.node c).level ≡ (v.node a).level) × ((v.node a).fence < (v.node c).fence)
+        go : Place v (named v p) (next_child v p) a c → Reached v c × ((v.node c).level ≡ (v.node a).level)
+            × ((v.node a).fence < (v.node c).fence)
         go (inner k g h) =
             let d = named-child v p l k in
             (child-reached v r d, (let x = j.child-level r d in let y = j.child-level r gap-child in omega arith), g)
@@ -189,14 +194,16 @@ module _ (v : View) (j : Joined v) where
         go (final e h) = let s = next-none e z in ((v.node p).sibling, by-sibling r s, next-there s e)
 
     -- what lies in the gap is no node's child
-    gap-alone : (b : ℕ) → (v.node b).level ≡ (v.node a).level → (v.node a).fence < (v.node b).fence → (c ≢ 0 → (v.node b).fence < (v.node c).fence) → {q : ℕ} → Reached v q → Child v q b → ⊥
+    gap-alone : (b : ℕ) → (v.node b).level ≡ (v.node a).level → (v.node a).fence < (v.node b).fence
+        → (c ≢ 0 → (v.node b).fence < (v.node c).fence) → {q : ℕ} → Reached v q → Child v q b → ⊥
     gap-alone b lb above below {q} s k = go (compared (v.node q).fence (v.node p).fence) gap-place
       where
         same-level : (v.node q).level ≡ (v.node p).level
         same-level = let x = j.child-level s k in let y = j.child-level r gap-child in omega arith
 
         left-of : (v.node q).fence < (v.node p).fence → ⊥
-        left-of o = let u = j.sibling-next r s (sym same-level) o in let x = child-below s k u.0 in let y = child-from r gap-child in omega (arith, u.1)
+        left-of o = let u = j.sibling-next r s (sym same-level) o in let x = child-below s k u.0 in let y =
+            child-from r gap-child in omega (arith, u.1)
 
         inside : Memᴰ b (named v p) → Place v (named v p) (next_child v p) a c → ⊥
         inside m (inner i g h) = either (h b m)
@@ -224,19 +231,23 @@ module _ (v : View) (j : Joined v) where
             let t = j.left-fence rs (let h = j.sibling-level r u.0 in omega arith) in
             omega (arith, u.1)
 
-        go : ((v.node q).fence < (v.node p).fence) ⊎ (((v.node q).fence ≡ (v.node p).fence) ⊎ ((v.node p).fence < (v.node q).fence)) → Place v (named v p) (next_child v p) a c → ⊥
+        go : ((v.node q).fence < (v.node p).fence) ⊎ (((v.node q).fence ≡ (v.node p).fence) ⊎ ((v.node p).fence < (v.node q).fence))
+            → Place v (named v p) (next_child v p) a c → ⊥
         go (inl o) w = left-of o
         go (inr (inl e)) w = inside (child-named v (subst (λ (x : ℕ). Child v x b) (j.apart s r same-level e) k)) w
         go (inr (inr o)) w = right-of o w
 
     -- y stands in the gap, or is a: its sibling is c, or stands in the gap too
-    pub gap-sibling : {y : ℕ} → Reached v y → (v.node y).level ≡ (v.node a).level → (v.node a).fence ≤ (v.node y).fence → (c ≢ 0 → (v.node y).fence < (v.node c).fence) → ((v.node y).sibling ≡ c → ⊥) → Stray v a c (v.node y).sibling
+    pub gap-sibling : {y : ℕ} → Reached v y → (v.node y).level ≡ (v.node a).level → (v.node a).fence ≤ (v.node y).fence
+        → (c ≢ 0 → (v.node y).fence < (v.node c).fence) → ((v.node y).sibling ≡ c → ⊥) → Stray v a c (v.node y).sibling
     gap-sibling {y} s ly from under other = stray (same-or-not c 0)
       where
-        closer : (v.node (v.node y).sibling).fence ≤ (v.node c).fence → (v.node y).sibling ≢ 0 → Reached v c → (v.node c).level ≡ (v.node a).level → (v.node (v.node y).sibling).fence < (v.node c).fence
+        closer : (v.node (v.node y).sibling).fence ≤ (v.node c).fence → (v.node y).sibling ≢ 0 → Reached v c → (v.node c).level
+            ≡ (v.node a).level → (v.node (v.node y).sibling).fence < (v.node c).fence
         closer h z rc lc = go (compared (v.node (v.node y).sibling).fence (v.node c).fence)
           where
-            go : ((v.node (v.node y).sibling).fence < (v.node c).fence) ⊎ (((v.node (v.node y).sibling).fence ≡ (v.node c).fence) ⊎ ((v.node c).fence < (v.node (v.node y).sibling).fence))
+            go : ((v.node (v.node y).sibling).fence < (v.node c).fence)
+                ⊎ (((v.node (v.node y).sibling).fence ≡ (v.node c).fence) ⊎ ((v.node c).fence < (v.node (v.node y).sibling).fence))
                 → (v.node (v.node y).sibling).fence < (v.node c).fence
             go (inl x) = x
             go (inr (inl e)) = absurd (other (j.apart (by-sibling s z) rc (let t = j.sibling-level s z in omega arith) e))

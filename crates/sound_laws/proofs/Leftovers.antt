@@ -1,10 +1,6 @@
 -- The leftovers: what each says of the nodes that it does not excuse, and the node that lacks its slot.
-use mathlib.Core.Path.{◌≡◌, refl, ap, sym, ◌∙◌}
-use mathlib.Core.Bool.{true, false}
-use mathlib.Core.Logic.{◌≢◌, ◌⊎◌, inr, ⊎_elim}
+use Rattle.std.proofs.Common.{◌≡◌, ℕ, ◌<◌, true, false, ◌≢◌, ◌⊎◌, sym, refl, ap, ◌∙◌, inr, ⊎_elim, arith}
 use mathlib.Core.List.{Memᴰ}
-use Prim.Native.Nat.{ℕ, ◌<◌}
-use native.Mathlib.Omega.{arith}
 use Rattle.model.specs.Slots.{View}
 use Rattle.model.specs.Reached.{kept, named, next_child, children, reached}
 use Rattle.model.specs.Sound.{Lacks, Trails, Hides, LacksSlot, IsLeft}
@@ -56,7 +52,9 @@ module _ (v : View) {n : ℕ} (m : Memᴰ n (reached v)) where
     lost-only : {p b : ℕ} → MissingOnly v p b → a ≡ b
     lost-only {p} {b} g = ⊎_elim
         (λ e. gap-only v (named v p) g.here.1 (rw e at o))
-        (λ z. absurd (lost-none (only-other p (reached v) (((v.node p).level ≢ 0) × Gap v b (named v p) (next_child v p)) (λ (k : ℕ). (v.node k).level ≢ 0 → children v k ≡ named v k) g n m z))) (same-or-not n p)
+        (λ z. absurd (lost-none
+        (only-other p (reached v) (((v.node p).level ≢ 0) × Gap v b (named v p) (next_child v p))
+        (λ (k : ℕ). (v.node k).level ≢ 0 → children v k ≡ named v k) g n m z))) (same-or-not n p)
 
     lost-never : NoneMissing v → ⊥
     lost-never h = lost-none (each-mem (λ (k : ℕ). (v.node k).level ≢ 0 → children v k ≡ named v k) h m)

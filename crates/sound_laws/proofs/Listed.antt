@@ -1,11 +1,7 @@
 -- Where every listed node is good, the list of reached nodes holds just the nodes of document 01's sentence, and the map just its slots.
-use mathlib.Core.Path.{◌≡◌, refl, sym, ◌∙◌, subst}
-use mathlib.Core.Bool.{true}
-use mathlib.Core.Logic.{◌⊎◌, inl, inr}
+use Rattle.std.proofs.Common.{◌≡◌, ℕ, zero, suc, true, ◌⊎◌, List, [], ◌∷◌, sym, refl, ◌∙◌, subst, inl, inr, arith}
 use mathlib.Core.List.Memᴰ
-use mathlib.Core.List.{List, [], ◌∷◌, Memᴰ}
-use Prim.Native.Nat.{ℕ, zero, suc}
-use native.Mathlib.Omega.{arith}
+use mathlib.Core.List.{Memᴰ}
 use Rattle.model.specs.Table.{in_range}
 use Rattle.model.specs.Slots.{Slot, View, height}
 use Rattle.model.specs.Reached.{flat, kept, named, next_child, children, reached_from, reached, leaves, mapping}
@@ -20,12 +16,14 @@ use Rattle.sound_laws.proofs.Neighbours.{Lost, in-fill, follows-in}
 use Rattle.sound_laws.proofs.Joined.{child-named, named-child, child-inner, child-reached}
 
 -- what goes from a node to its children holds of all that is listed from a row down
-pub rows-all : (v : View) (P : ℕ → Type 0) → ((n c : ℕ) → P n → Memᴰ c (children v n) → P c) → (d : ℕ) (ns : List ℕ) → Each P ns → Each P (reached_from v d ns)
+pub rows-all : (v : View) (P : ℕ → Type 0) → ((n c : ℕ) → P n → Memᴰ c (children v n) → P c) → (d : ℕ) (ns : List ℕ) → Each P ns
+    → Each P (reached_from v d ns)
 unfolding reached_from
 rows-all v P step zero ns h = h
 rows-all v P step (suc d) ns h =
     let low = flat (children v) ns in
-    Each-append P ns (reached_from v d low) h (rows-all v P step d low (mem-each P low (λ c k. let u = (mem-flat (children v) c ns).0 k in step u.0 c (each-mem P h u.1) u.2)))
+    Each-append P ns (reached_from v d low) h
+    (rows-all v P step d low (mem-each P low (λ c k. let u = (mem-flat (children v) c ns).0 k in step u.0 c (each-mem P h u.1) u.2)))
 
 -- the root is as it should be, and every listed node is good
 pub record AllGood (v : View) : Type 0 where
@@ -69,11 +67,14 @@ module _ (v : View) (w : AllGood v) where
   both-below : (n c : ℕ) → Both n → Memᴰ c (children v n) → Both c
   both-below n c b m = (listed-below b.0 m, go (v.node n).level refl)
     where
-      in-row : (d : ℕ) → (v.node n).level ≡ suc d → Memᴰ c (named v n) ⊎ ((a : ℕ) × (e : ℕ) × Lost v (named v n) (next_child v n) a e × (c ≡ (v.node a).sibling)) → Reached v c
+      in-row : (d : ℕ) → (v.node n).level ≡ suc d → Memᴰ c (named v n)
+          ⊎ ((a : ℕ) × (e : ℕ) × Lost v (named v n) (next_child v n) a e × (c ≡ (v.node a).sibling)) → Reached v c
       in-row d e (inl k) = child-reached v b.1 (named-child v n (omega arith) k)
       in-row d e (inr u) =
           let ra = child-reached v b.1 (named-child v n (omega arith) (follows-in u.2.follows)) in
-          let z = not-zero v c (each-mem (λ (x : ℕ). in_range v.nodes x ≡ true) ((all-each (in_range v.nodes) (children v n)).0 (inner v d n (each-mem (Good v) w.good b.0) e).range) m) in
+          let z = not-zero v c
+          (each-mem (λ (x : ℕ). in_range v.nodes x ≡ true)
+          ((all-each (in_range v.nodes) (children v n)).0 (inner v d n (each-mem (Good v) w.good b.0) e).range) m) in
           subst (Reached v) (sym u.3) (by-sibling ra (λ q. z (u.3 ∙ q)))
 
       go : (d : ℕ) → (v.node n).level ≡ d → Reached v c
@@ -89,7 +90,10 @@ module _ (v : View) (w : AllGood v) where
   -- ---- the leaves and the map
 
   pub leaf-listed : {n : ℕ} → Memᴰ n (leaves v) → Reached v n × ((v.node n).level ≡ 0)
-  leaf-listed {n} m = (listed-reached ((mem-reached v n (height v) (v.root ∷ [])).1 (height v, omega arith, m)), (each-mem (At v 0) leaf-level.at m).level)
+  leaf-listed {n} m = (
+    listed-reached ((mem-reached v n (height v) (v.root ∷ [])).1 (height v, omega arith, m)),
+    (each-mem (At v 0) leaf-level.at m).level,
+  )
 
   pub leaves-distinct : distinct (leaves v) ≡ true
   leaves-distinct = row-distinct v (leaves v) (ascending v 0 (leaves v) leaf-level)

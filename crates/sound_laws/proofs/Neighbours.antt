@@ -1,12 +1,9 @@
 -- Neighbours in a row of nodes: which node follows which, what linked and fill_row say of each two, and the one gap of a row.
-use mathlib.Core.Path.{◌≡◌, refl, ap, sym, ◌∙◌, subst}
-use mathlib.Core.Bool.{Bool, true, false}
-use mathlib.Core.Logic.{◌≢◌, ◌⊎◌, inl, inr, ⊎_elim}
+use Rattle.std.proofs.Common.{◌≡◌, ℕ, Bool, true, false, eqb, ◌≢◌, ◌⊎◌, List, [], ◌∷◌, ◌++◌, sym, refl, ap, ◌∙◌, subst, inl, inr, ⊎_elim}
+use Rattle.std.proofs.Common.{eqb-true}
 use mathlib.Core.List.Memᴰ
-use mathlib.Core.List.{List, [], ◌∷◌, ◌++◌, Memᴰ}
-use Prim.Native.Nat.{ℕ}
-use lib.Dec.{eqb}
-use borrow.Author.Tests.{eqb-true, eqb-false}
+use mathlib.Core.List.{Memᴰ}
+use borrow.Author.Tests.{eqb-false}
 use Rattle.model.specs.Slots.{View}
 use Rattle.model.specs.Reached.{head_or, fill_row}
 use Rattle.model.specs.SoundTest.{elem, distinct, linked}
@@ -44,7 +41,8 @@ module _ (v : View) where
   linked-follows [] l f = absurd (follows-none f)
   linked-follows {e} {a} {c} (n ∷ ns) l f = let u = (linked-cons v n ns e).0 l in go u.0 (follows-cases f) (linked-follows ns u.1)
     where
-      go : (v.node n).sibling ≡ head_or e ns → ((a ≡ n) × (c ≡ head_or e ns)) ⊎ Follows e a c ns → (Follows e a c ns → (v.node a).sibling ≡ c) → (v.node a).sibling ≡ c
+      go : (v.node n).sibling ≡ head_or e ns → ((a ≡ n) × (c ≡ head_or e ns)) ⊎ Follows e a c ns
+          → (Follows e a c ns → (v.node a).sibling ≡ c) → (v.node a).sibling ≡ c
       go s (inl w) ih = ap (sibling_of v) w.0 ∙ s ∙ sym w.1
       go s (inr k) ih = ih k
 
@@ -59,7 +57,8 @@ module _ (v : View) where
   lost-later n l = record { follows = there l.follows; other = l.other }
 
   -- a node of the filled row is one of the row, or the sibling of one that lost it
-  pub in-fill : (e : ℕ) {x : ℕ} (ns : List ℕ) → Memᴰ x (fill_row v ns e) → Memᴰ x ns ⊎ ((a : ℕ) × (c : ℕ) × Lost ns e a c × (x ≡ (v.node a).sibling))
+  pub in-fill : (e : ℕ) {x : ℕ} (ns : List ℕ) → Memᴰ x (fill_row v ns e) → Memᴰ x ns
+      ⊎ ((a : ℕ) × (c : ℕ) × Lost ns e a c × (x ≡ (v.node a).sibling))
   unfolding fill_row
   in-fill e [] m = inl m
   in-fill e {x} (n ∷ ns) m = go (eqb (v.node n).sibling (head_or e ns)) refl (in-fill e ns)
@@ -75,11 +74,13 @@ module _ (v : View) where
       yes-case (inl p) ih = inl (Memᴰ.head p)
       yes-case (inr k) ih = later (ih k)
 
-      no-case : eqb (v.node n).sibling (head_or e ns) ≡ false → (x ≡ (v.node n).sibling) ⊎ Memᴰ x (fill_row v ns e) → (Memᴰ x (fill_row v ns e) → Fill ns) → Fill (n ∷ ns)
+      no-case : eqb (v.node n).sibling (head_or e ns) ≡ false → (x ≡ (v.node n).sibling) ⊎ Memᴰ x (fill_row v ns e)
+          → (Memᴰ x (fill_row v ns e) → Fill ns) → Fill (n ∷ ns)
       no-case t (inl p) ih = inr (n, head_or e ns, record { follows = here refl refl; other = eqb-false _ _ t }, p)
       no-case t (inr k) ih = later (ih k)
 
-      first : eqb (v.node n).sibling (head_or e ns) ≡ false → (x ≡ n) ⊎ Memᴰ x ((v.node n).sibling ∷ fill_row v ns e) → (Memᴰ x (fill_row v ns e) → Fill ns) → Fill (n ∷ ns)
+      first : eqb (v.node n).sibling (head_or e ns) ≡ false → (x ≡ n) ⊎ Memᴰ x ((v.node n).sibling ∷ fill_row v ns e)
+          → (Memᴰ x (fill_row v ns e) → Fill ns) → Fill (n ∷ ns)
       first t (inl p) ih = inl (Memᴰ.head p)
       first t (inr k) ih = no-case t (Memᴰ.cases_cons k) ih
 
@@ -87,16 +88,20 @@ module _ (v : View) where
       go true t ih = yes-case (Memᴰ.cases_cons (rw (link-yes v n ns e t) at m)) ih
       go false t ih = first t (Memᴰ.cases_cons (rw (link-no v n ns e t) at m)) ih
 
-  pub linked-fill : (e : ℕ) (ns : List ℕ) → ((a c : ℕ) → Lost ns e a c → (v.node (v.node a).sibling).sibling ≡ c) → linked v (fill_row v ns e) e ≡ true
+  pub linked-fill : (e : ℕ) (ns : List ℕ) → ((a c : ℕ) → Lost ns e a c → (v.node (v.node a).sibling).sibling ≡ c)
+      → linked v (fill_row v ns e) e ≡ true
   unfolding fill_row linked
   linked-fill e [] h = refl
   linked-fill e (n ∷ ns) h = go (eqb (v.node n).sibling (head_or e ns)) refl (linked-fill e ns (λ a c l. h a c (lost-later n l)))
     where
-      go : (b : Bool) → eqb (v.node n).sibling (head_or e ns) ≡ b → linked v (fill_row v ns e) e ≡ true → linked v (fill_row v (n ∷ ns) e) e ≡ true
+      go : (b : Bool) → eqb (v.node n).sibling (head_or e ns) ≡ b → linked v (fill_row v ns e) e ≡ true
+          → linked v (fill_row v (n ∷ ns) e) e ≡ true
       go true t ih = rw (link-yes v n ns e t) ((linked-cons v n (fill_row v ns e) e).1 (eqb-true _ _ t ∙ sym (head-row v ns e e), ih))
       go false t ih =
           let l : Lost (n ∷ ns) e n (head_or e ns) = record { follows = here refl refl; other = eqb-false _ _ t } in
-          rw (link-no v n ns e t) ((linked-cons v n ((v.node n).sibling ∷ fill_row v ns e) e).1 (refl, (linked-cons v (v.node n).sibling (fill_row v ns e) e).1 (h n (head_or e ns) l ∙ sym (head-row v ns e e), ih)))
+          rw (link-no v n ns e t)
+          ((linked-cons v n ((v.node n).sibling ∷ fill_row v ns e) e).1
+          (refl, (linked-cons v (v.node n).sibling (fill_row v ns e) e).1 (h n (head_or e ns) l ∙ sym (head-row v ns e e), ih)))
 
   -- ---- linked rows lose no sibling, and rows with one gap lose one
 
@@ -114,26 +119,33 @@ module _ (v : View) where
   follows-at e a (n ∷ before) after = there (follows-at e a before after)
 
   pub gap-lost : {e a : ℕ} (ns : List ℕ) (g : Gap v a ns e) → Lost ns e a (head_or e g.after)
-  gap-lost {e} {a} ns g = record { follows = subst (Follows e a (head_or e g.after)) (sym g.shape) (follows-at e a g.before g.after); other = g.lacks }
+  gap-lost {e} {a} ns g =
+      record { follows = subst (Follows e a (head_or e g.after)) (sym g.shape) (follows-at e a g.before g.after); other = g.lacks }
 
-  only-middle : {e a b c : ℕ} (before after : List ℕ) → linked v before a ≡ true → linked v after e ≡ true → Lost (before ++ a ∷ after) e b c → b ≡ a
-  only-middle [] after l r o = ⊎_elim (λ w. w.0) (λ k. absurd (linked-lost after r (record { follows = k; other = o.other }))) (follows-cases o.follows)
+  only-middle : {e a b c : ℕ} (before after : List ℕ) → linked v before a ≡ true → linked v after e ≡ true
+      → Lost (before ++ a ∷ after) e b c → b ≡ a
+  only-middle [] after l r o =
+      ⊎_elim (λ w. w.0) (λ k. absurd (linked-lost after r (record { follows = k; other = o.other }))) (follows-cases o.follows)
   only-middle {e} {a} (n ∷ before) after l r o =
       let u = (linked-cons v n before a).0 l in
       ⊎_elim (λ w. absurd (o.other (ap (sibling_of v) w.0 ∙ u.0 ∙ head-append e before (a ∷ after) ∙ sym w.1)))
       (λ k. only-middle before after u.1 r (record { follows = k; other = o.other })) (follows-cases o.follows)
 
   pub gap-only : {e a b c : ℕ} (ns : List ℕ) → Gap v a ns e → Lost ns e b c → b ≡ a
-  gap-only {e} {a} {b} {c} ns g o = only-middle g.before g.after g.joined-before g.joined-after (subst (λ (ks : List ℕ). Lost ks e b c) g.shape o)
+  gap-only {e} {a} {b} {c} ns g o =
+      only-middle g.before g.after g.joined-before g.joined-after (subst (λ (ks : List ℕ). Lost ks e b c) g.shape o)
 
   pub lost-gap : {e a c : ℕ} (ns : List ℕ) → distinct ns ≡ true → Lost ns e a c → ((b d : ℕ) → Lost ns e b d → b ≡ a) → Gap v a ns e
   lost-gap [] d o only = absurd (follows-none o.follows)
-  lost-gap {e} {a} {c} (n ∷ ns) d o only = let u = (distinct-cons n ns).0 d in go (same-or-not (v.node n).sibling (head_or e ns)) u.0 (lost-gap ns u.1)
+  lost-gap {e} {a} {c} (n ∷ ns) d o only = let u =
+      (distinct-cons n ns).0 d in go (same-or-not (v.node n).sibling (head_or e ns)) u.0 (lost-gap ns u.1)
     where
       later : (v.node n).sibling ≡ head_or e ns → Lost ns e a c
-      later q = ⊎_elim (λ w. absurd (o.other (ap (sibling_of v) w.0 ∙ q ∙ sym w.1))) (λ k. record { follows = k; other = o.other }) (follows-cases o.follows)
+      later q = ⊎_elim (λ w. absurd (o.other (ap (sibling_of v) w.0 ∙ q ∙ sym w.1))) (λ k. record { follows = k; other = o.other })
+          (follows-cases o.follows)
 
-      go : ((v.node n).sibling ≡ head_or e ns) ⊎ ((v.node n).sibling ≢ head_or e ns) → elem n ns ≡ false → (Lost ns e a c → ((b d : ℕ) → Lost ns e b d → b ≡ a) → Gap v a ns e) → Gap v a (n ∷ ns) e
+      go : ((v.node n).sibling ≡ head_or e ns) ⊎ ((v.node n).sibling ≢ head_or e ns) → elem n ns ≡ false
+          → (Lost ns e a c → ((b d : ℕ) → Lost ns e b d → b ≡ a) → Gap v a ns e) → Gap v a (n ∷ ns) e
       go (inl q) x ih = gap-more v a n ns e q (ih (later q) (λ b d l. only b d (lost-later n l)))
       go (inr z) x ih =
           let s : n ≡ a = only n (head_or e ns) (record { follows = here refl refl; other = z }) in
@@ -143,5 +155,6 @@ module _ (v : View) where
             shape = ap (λ (m : ℕ). m ∷ ns) s;
             joined-before = unfold linked in refl;
             lacks = λ q. z (ap (sibling_of v) s ∙ q);
-            joined-after = lost-linked e ns (λ b d l. (elem-none n ns).0 x (Memᴰ.cast (s ∙ sym (only b d (lost-later n l))) (follows-in l.follows)));
+            joined-after = lost-linked e ns
+                (λ b d l. (elem-none n ns).0 x (Memᴰ.cast (s ∙ sym (only b d (lost-later n l))) (follows-in l.follows)));
           }

@@ -1,11 +1,7 @@
 -- Routing in a row of rising fences: a key between two neighbours goes to the first.
-use mathlib.Core.Path.{◌≡◌, ap, sym, ◌∙◌}
-use mathlib.Core.Logic.{◌≢◌, ◌⊎◌, inl, inr}
+use Rattle.std.proofs.Common.{◌≡◌, ℕ, ◌<◌, ◌≤◌, ◌≢◌, ◌⊎◌, List, [], ◌∷◌, sym, ap, ◌∙◌, inl, inr, arith, le-leb}
 use mathlib.Core.List.Memᴰ
-use mathlib.Core.List.{List, [], ◌∷◌, Memᴰ}
-use Prim.Native.Nat.{ℕ, ◌≤◌, ◌<◌}
-use native.Mathlib.Omega.{arith}
-use borrow.Author.Tests.{le-leb}
+use mathlib.Core.List.{Memᴰ}
 use Rattle.model.specs.Slots.{Slot, View}
 use Rattle.model.specs.Search.{route}
 use Rattle.model.specs.Reached.{pointers}
@@ -17,7 +13,8 @@ use Rattle.tree_laws.proofs.Cover.{route-none}
 use Rattle.sound_laws.proofs.Neighbours.{Follows, follows-in, follows-cases, follows-none}
 
 -- a key from a's fence up and below the next one's goes to a
-pub route-follows : (v : View) (k : ℕ) {e a c : ℕ} (p : ℕ) (ss : List Slot) → Ascending v (p ∷ pointers ss) → Each (λ (s : Slot). (v.node s.pointer).fence ≡ s.key) ss → Each (λ (s : Slot). s.pointer ≢ 0) ss
+pub route-follows : (v : View) (k : ℕ) {e a c : ℕ} (p : ℕ) (ss : List Slot) → Ascending v (p ∷ pointers ss)
+    → Each (λ (s : Slot). (v.node s.pointer).fence ≡ s.key) ss → Each (λ (s : Slot). s.pointer ≢ 0) ss
     → Follows e a c (p ∷ pointers ss) → (v.node a).fence ≤ k → (c ≢ 0 → k < (v.node c).fence) → route k p ss ≡ a
 unfolding route
 route-follows v k {e} {a} {c} p [] h f z o low high = go (follows-cases o)
@@ -37,7 +34,8 @@ route-follows v k {e} {a} {c} p (s ∷ ss) h f z o low high = go (follows-cases 
     lower (inr m) = let x = each-mem (λ (n : ℕ). (v.node s.pointer).fence < (v.node n).fence) h.1.0 m in let y = f.0 in omega arith
 
     go : ((a ≡ p) × (c ≡ s.pointer)) ⊎ Follows e a c (s.pointer ∷ pointers ss)
-        → (Follows e a c (s.pointer ∷ pointers ss) → (v.node a).fence ≤ k → (c ≢ 0 → k < (v.node c).fence) → route k s.pointer ss ≡ a) → route k p (s ∷ ss) ≡ a
+        → (Follows e a c (s.pointer ∷ pointers ss) → (v.node a).fence ≤ k → (c ≢ 0 → k < (v.node c).fence) → route k s.pointer ss ≡ a)
+        → route k p (s ∷ ss) ≡ a
     go (inl u) ih =
         let b : k < (v.node s.pointer).fence = let x = ap (fence_of v) u.1 in let y = high (λ q. z.0 (sym u.1 ∙ q)) in omega arith in
         route-none v k p (s ∷ ss) (let y = f.0 in omega arith, higher ss b h.1.0 f.1) ∙ sym u.0

@@ -1,10 +1,7 @@
 -- Document 01, "Sound tables": the sentences of Sound.antt and the test of SoundTest.antt say the same of every tree.
-use mathlib.Core.Path.{◌≡◌, refl, ap, ◌∙◌}
-use mathlib.Core.Bool.{true}
-use mathlib.Core.Logic.{◌↔◌}
+use Rattle.std.proofs.Common.{◌≡◌, ℕ, true, ◌↔◌, refl, ap, ◌∙◌}
 use mathlib.Core.List.{Memᴰ}
 use mathlib.Core.Option.{some}
-use Prim.Native.Nat.{ℕ}
 use Rattle.model.specs.Table.{in_range, nodes, root}
 use Rattle.model.specs.Slots.{Slot, View}
 use Rattle.model.specs.Reached.{kept, reached, mapping}
@@ -28,6 +25,7 @@ pub record Passes (v : View) (x : Leftover) : Type 0 where
 
 -- with the root in 1 to N, the test and the sentences say the same of each leftover
 module _ (v : View) (range : in_range v.nodes v.root ≡ true) where
+  -- a tree passes the test with leftover x exactly if x is left and the sentences hold but for what x excuses
   pub passes-same : (x : Leftover) → Passes v x ↔ (IsLeft v x × SettledBut v x)
   passes-same x = (
     λ p.
@@ -41,7 +39,8 @@ module _ (v : View) (range : in_range v.nodes v.root ≡ true) where
   pub settled-view : (settled_view v ≡ true) ↔ SettledBut v nothing
   unfolding settled_view
   settled-view = (
-    λ h. let u = (and-iff _ _).0 h in ((passes-same nothing).0 (record { orderly = u.0; leftover = (is-nothing (leftover v)).0 u.1; room = refl })).1,
+    λ h. let u = (and-iff _ _).0 h in
+        ((passes-same nothing).0 (record { orderly = u.0; leftover = (is-nothing (leftover v)).0 u.1; room = refl })).1,
     λ s. let p = (passes-same nothing).1 (tt, s) in (and-iff (orderly v) (is_nothing (leftover v))).1 (p.orderly, ap is_nothing p.leftover),
   )
 
@@ -49,20 +48,26 @@ module _ (v : View) (range : in_range v.nodes v.root ≡ true) where
   pub sound-view : (sound_view v ≡ true) ↔ ((x : Leftover) × IsLeft v x × SettledBut v x)
   unfolding sound_view
   sound-view = (
-    λ h. let u = (and-iff _ _).0 h in let a = (is-allowed v (leftover v)).0 u.1 in let p = (passes-same a.0).0 (record { orderly = u.0; leftover = a.1; room = a.2 }) in (a.0, p.0, p.1),
-    λ s. let p = (passes-same s.0).1 (s.1, s.2) in (and-iff (orderly v) (is_allowed v (leftover v))).1 (p.orderly, ap (is_allowed v) p.leftover ∙ p.room),
+    λ h. let u = (and-iff _ _).0 h in let a = (is-allowed v (leftover v)).0 u.1 in let p =
+        (passes-same a.0).0 (record { orderly = u.0; leftover = a.1; room = a.2 }) in (a.0, p.0, p.1),
+    λ s. let p = (passes-same s.0).1 (s.1, s.2) in (and-iff (orderly v) (is_allowed v (leftover v))).1
+        (p.orderly, ap (is_allowed v) p.leftover ∙ p.room),
   )
 
 -- ---- reached nodes and the map, on a view that is orderly, as every sound one is
 
+-- a tree that passes the test of soundness passes that of order
 pub sound-orderly : (v : View) → sound_view v ≡ true → orderly v ≡ true
 unfolding sound_view
 sound-orderly v h = ((and-iff (orderly v) (is_allowed v (leftover v))).0 h).0
 
 -- The nodes of document 01's sentence are those that the test lists.
 pub reached-same : (v : View) → orderly v ≡ true → (n : ℕ) → Reached v n ↔ (elem n (reached v) ≡ true)
-reached-same v h n = let w = orderly-good v ((orderly-iff v).0 h) in (λ r. (elem-iff n (reached v)).1 (reached-listed v w r), λ e. listed-reached v w ((elem-iff n (reached v)).0 e))
+reached-same v h n = let w =
+    orderly-good v ((orderly-iff v).0 h) in
+    (λ r. (elem-iff n (reached v)).1 (reached-listed v w r), λ e. listed-reached v w ((elem-iff n (reached v)).0 e))
 
 -- The map is every shown slot of a reached leaf whose key is below the leaf's sibling's fence.
-pub map-same : (v : View) → orderly v ≡ true → (s : Slot) → Memᴰ s (mapping v) ↔ ((n : ℕ) × Reached v n × ((v.node n).level ≡ 0) × Memᴰ s (kept v n))
+pub map-same : (v : View) → orderly v ≡ true → (s : Slot)
+    → Memᴰ s (mapping v) ↔ ((n : ℕ) × Reached v n × ((v.node n).level ≡ 0) × Memᴰ s (kept v n))
 map-same v h s = let o = (orderly-iff v).0 h in (λ m. mapped v (orderly-good v o) m, λ u. in-map-of v o u.1 u.2 u.3)

@@ -1,21 +1,14 @@
 -- The codes of the leaves, passed one by one along the siblings.
-use mathlib.Core.Path.{◌≡◌, refl, ap, sym, ◌∙◌}
-use mathlib.Core.Bool.{Bool, true, false}
-use mathlib.Core.List.{List, [], ◌∷◌}
-use Prim.Native.Nat.{ℕ, zero, suc, ◌+◌, ◌*◌, ◌≤◌}
-use native.Mathlib.Numerals.{add-one}
-use native.Mathlib.Omega.{arith}
-use lib.Dec.{eqb}
-use lib.ListN.{length, length-append}
+use Rattle.std.proofs.Common.{◌≡◌, ℕ, zero, suc, ◌+◌, ◌*◌, ◌≤◌, Bool, true, false, eqb, List, [], ◌∷◌, length, sym, refl, ap, ◌∙◌, add-one}
+use Rattle.std.proofs.Common.{arith, length-append}
 use Rattle.std.specs.List.{sum_by}
 use Rattle.std.proofs.lemmas.List.Sums.{sum_by-cons}
-use Rattle.model.specs.Table.{Words, at, node, header_ok}
+use Rattle.model.specs.Table.{Words, at, node}
 use Rattle.model.specs.Slots.{Slot, node_view, view_from, view, used}
 use Rattle.model.specs.Search.{within, below}
 use Rattle.model.specs.Reached.{flat, kept, reached, mapping}
 use Rattle.model.specs.SoundTest.{sound_view}
 use Rattle.list_laws.proofs.Filters.{filter-short}
-use Rattle.table_laws.proofs.Header.{header-iff}
 use Rattle.slot_laws.proofs.Hiding.{shown-and-hidden}
 use Rattle.tour_laws.proofs.Ends.{node-slots}
 use Rattle.slots.specs.Scan.{in_use_of}
@@ -44,7 +37,8 @@ module _ (t : Words) where
   unfolding flat
   codes-sum [] = refl
   codes-sum (n ∷ ns) =
-      sum_by-cons (λ (n : ℕ). length (kept (view t) n)) n ns ∙ ap (λ (k : ℕ). length (kept (view t) n) + k) (codes-sum ns) ∙ sym (length-append (kept (view t) n) (flat (kept (view t)) ns))
+      sum_by-cons (λ (n : ℕ). length (kept (view t) n)) n ns ∙ ap (λ (k : ℕ). length (kept (view t) n) + k) (codes-sum ns)
+      ∙ sym (length-append (kept (view t) n) (flat (kept (view t)) ns))
 
   codes-few : (ns : List ℕ) → codes_in ns ≤ 12 * length ns
   unfolding flat
@@ -67,9 +61,6 @@ module _ (t : Words) where
 
   pub codes-bound : (c n : ℕ) → codes_along c n ≤ 12 * c
   codes-bound c n = omega (arith, codes-few (along (view t) c n), along-few c n)
-
-pub nodes-few : (t : Words) → header_ok t ≡ true → at t 2 ≤ 65535
-nodes-few t h = ((header-iff t).0 h).size.few
 
 -- ---- of a sound tree
 
@@ -96,7 +87,8 @@ module _ (t : Words) (r : ℕ) (s : sound_view (view_from t r) ≡ true) where
     pub top-few : top ≤ 15
     top-few = omega (arith, q ∙ word-level t r, (sound-in-order (view_from t r) s).top.level)
 
-    pub tree-words : (n k : ℕ) → n ≡ length (reached (view_from t r)) → k ≡ length (mapping (view_from t r)) → n ∷ k ∷ (top + 1) ∷ [] ≡ tree_words (view_from t r)
+    pub tree-words : (n k : ℕ) → n ≡ length (reached (view_from t r)) → k ≡ length (mapping (view_from t r)) → n ∷ k ∷ (top + 1) ∷ []
+        ≡ tree_words (view_from t r)
     unfolding tree_words
     tree-words n k a b =
         let v = view_from t r in

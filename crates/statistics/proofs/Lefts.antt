@@ -1,9 +1,5 @@
 -- What is left over, by numbers.
-use mathlib.Core.Path.{◌≡◌, ap, sym, ◌∙◌}
-use mathlib.Core.Bool.{Bool}
-use mathlib.Core.List.{[], ◌∷◌}
-use Prim.Native.Nat.{ℕ, ◌≤◌}
-use lib.ListN.{length}
+use Rattle.std.proofs.Common.{◌≡◌, ℕ, ◌≤◌, Bool, [], ◌∷◌, length, sym, ap, ◌∙◌}
 use Rattle.model.specs.declared.Node.{Node}
 use Rattle.model.specs.Table.{Words, node}
 use Rattle.model.specs.Slots.{Slot, node_view, view, used}
@@ -42,7 +38,8 @@ module _ (t : Words) where
         ap (λ (y : ℕ). 2 ∷ c ∷ 0 ∷ 0 ∷ y ∷ a ∷ p ∷ k ∷ []) (q ∙ word-sibling t a)
         ∙ ap (λ (y : ℕ). 2 ∷ c ∷ 0 ∷ 0 ∷ (node_view t a).sibling ∷ a ∷ p ∷ y ∷ []) r ∙ words-of (MissingIn p a b) e
 
-    pub words-both : (p a h s : ℕ) → l ≡ BothIn p a → h ≡ hidden_slot t p → s ≡ word_of t a 1 → 3 ∷ c ∷ p ∷ h ∷ s ∷ a ∷ p ∷ 0 ∷ [] ≡ left_words t c (meant l)
+    pub words-both : (p a h s : ℕ) → l ≡ BothIn p a → h ≡ hidden_slot t p → s ≡ word_of t a 1 → 3 ∷ c ∷ p ∷ h ∷ s ∷ a ∷ p ∷ 0 ∷ []
+        ≡ left_words t c (meant l)
     words-both p a h s e q r =
         ap (λ (y : ℕ). 3 ∷ c ∷ p ∷ y ∷ s ∷ a ∷ p ∷ 0 ∷ []) q
         ∙ ap (λ (y : ℕ). 3 ∷ c ∷ p ∷ hidden_slot t p ∷ y ∷ a ∷ p ∷ 0 ∷ []) (r ∙ word-sibling t a) ∙ words-of (BothIn p a) e

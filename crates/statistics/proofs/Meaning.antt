@@ -1,14 +1,8 @@
 -- What the report of a sound table means: whether it is settled, which collection has the leftover, and how the counts go together.
-use mathlib.Core.Path.{◌≡◌, refl, ap, sym, ◌∙◌}
-use mathlib.Core.Bool.{Bool, true, false, cond, false≢true}
-use mathlib.Core.Logic.{◌≢◌, ◌↔◌, ◌⊎◌, inl, inr}
-use mathlib.Core.List.{◌∷◌, ◌++◌}
+use Rattle.std.proofs.Common.{◌≡◌, ℕ, suc, ◌+◌, Bool, true, false, cond, eqb, ◌≢◌, ◌⊎◌, ◌↔◌, ◌∷◌, ◌++◌, length, replicate, sym, refl, ap}
+use Rattle.std.proofs.Common.{◌∙◌, inl, inr, arith, eq-eqb, ne_eqb}
+use mathlib.Core.Bool.{false≢true}
 use mathlib.Core.Option.{Option, some}
-use Prim.Native.Nat.{ℕ, suc, ◌+◌}
-use native.Mathlib.Omega.{arith}
-use lib.Dec.{eqb}
-use lib.ListN.{length, replicate}
-use borrow.Author.Tests.{eq-eqb, ne_eqb}
 use Rattle.model.specs.Table.{Words, at, nodes}
 use Rattle.model.specs.Slots.{View, view_of, height}
 use Rattle.model.specs.Reached.{reached, mapping}
@@ -77,7 +71,8 @@ module _ (t : Words) (s : sound t ≡ true) where
   word : (k : ℕ) → at (report t) k ≡ at (left_words t (left_in t) u.leftover ++ rest) k
   word k = ap (λ (ws : Words). at ws k) report-form
 
-  counts : Counts (nodes t) (length (unreachable t)) (length (reached v₁)) (length (mapping v₁)) (suc (height v₁)) second (left_words t (left_in t) u.leftover ++ rest)
+  counts : Counts (nodes t) (length (unreachable t)) (length (reached v₁)) (length (mapping v₁)) (suc (height v₁)) second
+      (left_words t (left_in t) u.leftover ++ rest)
   counts = counts-are _ _ _ _ _ second t (left_in t) u.leftover
 
   none-second : at t 3 ≡ 0 → at second 0 ≡ 0
@@ -88,8 +83,22 @@ module _ (t : Words) (s : sound t ≡ true) where
   in-second z = rw (ne_eqb (at t 3) 0 z) (refl, refl)
 
   nodes-are : (at t 3 ≡ 0) ⊎ (at t 3 ≢ 0) → at (report t) 9 + (at (report t) 10 + at (report t) 13) ≡ at (report t) 8
-  nodes-are (inl z) = omega (arith, word 8, word 9, word 10, word 13, counts.0, counts.1, counts.2, counts.4, none-second z, count-alone t z, unreachable-all t s)
-  nodes-are (inr z) = omega (arith, word 8, word 9, word 10, word 13, counts.0, counts.1, counts.2, counts.4, (in-second z).0, count-beside t z, unreachable-all t s)
+  nodes-are (inl z) = omega
+      (arith, word 8, word 9, word 10, word 13, counts.0, counts.1, counts.2, counts.4, none-second z, count-alone t z, unreachable-all t s)
+  nodes-are (inr z) = omega (
+    arith,
+    word 8,
+    word 9,
+    word 10,
+    word 13,
+    counts.0,
+    counts.1,
+    counts.2,
+    counts.4,
+    (in-second z).0,
+    count-beside t z,
+    unreachable-all t s,
+  )
 
   -- the collection that has the leftover
   one : is_nothing (leftover v₁) ≡ false → left_in t ≡ 1
@@ -100,7 +109,8 @@ module _ (t : Words) (s : sound t ≡ true) where
   unfolding left_in
   two e = rw e
 
-  has-left : (at t 3 ≡ 0) ⊎ (at t 3 ≢ 0) → (b : Bool) → is_nothing (leftover v₁) ≡ b → is_nothing (leftover_all t) ≡ false → leftover (view_of (left_in t) t) ≡ leftover_all t
+  has-left : (at t 3 ≡ 0) ⊎ (at t 3 ≢ 0) → (b : Bool) → is_nothing (leftover v₁) ≡ b → is_nothing (leftover_all t) ≡ false
+      → leftover (view_of (left_in t) t) ≡ leftover_all t
   has-left (inl z) true e q = absurd (false≢true (sym q ∙ ap is_nothing (left-alone t z) ∙ e))
   has-left (inl z) false e q = ap (λ (n : ℕ). leftover (view_of n t)) (one e) ∙ sym (left-alone t z)
   has-left (inr z) true e q = ap (λ (n : ℕ). leftover (view_of n t)) (two e) ∙ sym (left-beside t z ∙ rw e)

@@ -1,14 +1,8 @@
 -- The trees of a sound table: their nodes, and which of them has the leftover.
-use mathlib.Core.Path.{◌≡◌, ap, sym, ◌∙◌}
-use mathlib.Core.Bool.{true, cond, false≢true}
-use mathlib.Core.Logic.{◌≢◌, ◌⊎◌, inl, inr}
-use mathlib.Core.List.{[], ◌∷◌}
+use Rattle.std.proofs.Common.{◌≡◌, ℕ, ◌+◌, ◌≤◌, true, cond, eqb, ◌≢◌, ◌⊎◌, [], ◌∷◌, length, replicate, sym, ap, ◌∙◌, inl, inr, arith}
+use Rattle.std.proofs.Common.{eq-eqb, ne_eqb}
+use mathlib.Core.Bool.{false≢true}
 use mathlib.Core.Option.{Option, some}
-use Prim.Native.Nat.{ℕ, ◌+◌, ◌≤◌}
-use native.Mathlib.Omega.{arith}
-use lib.Dec.{eqb}
-use lib.ListN.{length, replicate}
-use borrow.Author.Tests.{eq-eqb, ne_eqb}
 use Rattle.std.specs.Prelude.{None}
 use Rattle.model.specs.Table.{Words, at, header_ok}
 use Rattle.model.specs.Slots.{view_from, view_of}
@@ -59,7 +53,8 @@ module _ (t : Words) (s : sound t ≡ true) where
     there o z = o (e ∙ z)
 
     pub second-ready : (r ≡ 0 → ⊥) → (n : ℕ) → length (reached (view_of 1 t)) + n ≡ length (reached_all t) → Ready r n
-    second-ready o n q = let z = there o in let c = count-beside t z in ready 3 r n e (collection-sound 2 t s (second-there t z)) (omega (arith, q, c))
+    second-ready o n q = let z = there o in let c =
+        count-beside t z in ready 3 r n e (collection-sound 2 t s (second-there t z)) (omega (arith, q, c))
 
 -- zeros if there is no second tree
 abbrev pub second_words : Words → Words
@@ -84,7 +79,8 @@ module _ (t : Words) (x : Leftover) (c : ℕ) (h : checked t ≡ found x c) wher
   abbrev First : ℕ → ℕ → Type 0
   First n l = (n ≡ length (reached (view_of 1 t))) × (l ≡ left_in t)
 
-  left-from : (y : Leftover) → leftover (view_of 1 t) ≡ some (meant y) → (l : ℕ) → l ≡ cond (is_nothing (some (meant y))) 2 1 → l ≡ left_in t
+  left-from : (y : Leftover) → leftover (view_of 1 t) ≡ some (meant y) → (l : ℕ) → l
+      ≡ cond (is_nothing (some (meant y))) 2 1 → l ≡ left_in t
   unfolding left_in
   left-from y e l q = q ∙ ap (λ (o : Option model.Leftover). cond (is_nothing o) 2 1) (sym e)
 
@@ -94,7 +90,8 @@ module _ (t : Words) (x : Leftover) (c : ℕ) (h : checked t ≡ found x c) wher
 
   -- else the first tree is checked by itself
   module _ (r : ℕ) (e : r ≡ at t 1) where
-    pub first-beside : (y : Leftover) (n : ℕ) → found y n ≡ checked_tree (view_from t r) → (l : ℕ) → l ≡ cond (is_nothing (some (meant y))) 2 1 → First n l
+    pub first-beside : (y : Leftover) (n : ℕ) → found y n ≡ checked_tree (view_from t r) → (l : ℕ) → l
+        ≡ cond (is_nothing (some (meant y))) 2 1 → First n l
     first-beside y n a l b =
         let k : SoundTree (view_of 1 t) y n = tree-sound (view_of 1 t) y n (tree-at t 1 r e (found y n) a) in
         (k.reached-are, left-from y k.leftover-is l b)

@@ -1,12 +1,6 @@
 -- The report of a sound table from its parts, and what the check answers.
-use mathlib.Core.Path.{◌≡◌, ap, sym, ◌∙◌}
-use mathlib.Core.Bool.{true}
-use mathlib.Core.Logic.{◌≢◌}
-use mathlib.Core.List.{◌∷◌, ◌++◌}
+use Rattle.std.proofs.Common.{◌≡◌, ℕ, ◌+◌, ◌-◌, ◌≤◌, true, ◌≢◌, ◌∷◌, ◌++◌, length, sym, ap, ◌∙◌, arith}
 use mathlib.Core.Option.{Option}
-use Prim.Native.Nat.{ℕ, ◌+◌, ◌-◌, ◌≤◌}
-use native.Mathlib.Omega.{arith}
-use lib.ListN.{length}
 use Rattle.std.specs.Prelude as rust
 use Rattle.std.specs.Prelude.{Some, None, Ok, Err, ok_or}
 use Rattle.model.specs.declared.Refusal.{Refusal}

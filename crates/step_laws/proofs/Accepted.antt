@@ -1,14 +1,13 @@
 -- A list of tests: none of them holds exactly if the number is 0.
-use mathlib.Core.Path.{◌≡◌, refl}
-use mathlib.Core.Logic.{◌↔◌, ◌≢◌}
-use mathlib.Core.Bool.{Bool, true, false, cond}
-use mathlib.Core.List.{List, [], ◌∷◌}
+use Rattle.std.proofs.Common.{◌≡◌, Bool, true, false, cond, ◌≢◌, ◌↔◌, List, [], ◌∷◌, refl}
 use Rattle.model.specs.Refusals.{Test, first_number}
 use Rattle.list_laws.proofs.Tools.{Each}
 
+-- none of these tests holds
 abbrev pub Passed : List Test → Type 0
 Passed cs = Each (λ (c : Test). c.holds ≡ false) cs
 
+-- tests with numbers other than 0 give 0 exactly if none of them holds
 pub none-holds : (cs : List Test) → Each (λ (c : Test). c.number ≢ 0) cs → (first_number cs ≡ 0) ↔ Passed cs
 none-holds [] z = (λ e. tt, λ u. refl)
 none-holds (c ∷ cs) z = (λ e. go c.holds e refl (none-holds cs z.1).0, λ u. rw u.0 ((none-holds cs z.1).1 u.1))

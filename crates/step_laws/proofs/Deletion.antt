@@ -1,11 +1,5 @@
 -- The shift out of a leaf's only slot: the leaf can be freed then.
-use mathlib.Core.Path.{◌≡◌, refl, ap, ◌∙◌}
-use mathlib.Core.Bool.{true}
-use mathlib.Core.Logic.{◌≢◌}
-use mathlib.Core.List.{List, [], ◌∷◌, ◌++◌}
-use Prim.Native.Nat.{ℕ, zero, suc, ◌<◌}
-use native.Mathlib.Omega.{arith}
-use lib.ListN.{length, take, drop, get_or}
+use Rattle.std.proofs.Common.{◌≡◌, ℕ, zero, suc, ◌<◌, true, ◌≢◌, List, [], ◌∷◌, ◌++◌, length, get_or, take, drop, refl, ap, ◌∙◌, arith}
 use Rattle.model.specs.Table.{Words}
 use Rattle.model.specs.Slots.{Slot, slot, View, node_view, height}
 use Rattle.model.specs.Orders.{apply}
@@ -33,7 +27,8 @@ out-one (s ∷ []) zero e h = refl
 out-one (s ∷ []) (suc i) e h = absurd (omega arith)
 out-one (s ∷ r ∷ ss) i e h = absurd (omega arith)
 
-slot-same : (x : ℕ) {f f' : ℕ} {ss ss' : List Slot} → f' ≡ f → ss' ≡ ss → (place_of f ss < length ss) × ((get_or ss (place_of f ss) (slot 0 0)).pointer ≡ x)
+slot-same : (x : ℕ) {f f' : ℕ} {ss ss' : List Slot} → f' ≡ f → ss' ≡ ss → (place_of f ss < length ss)
+    × ((get_or ss (place_of f ss) (slot 0 0)).pointer ≡ x)
     → (place_of f' ss' < length ss') × ((get_or ss' (place_of f' ss') (slot 0 0)).pointer ≡ x)
 slot-same x e q h = rw (e, q) h
 
@@ -84,9 +79,12 @@ module _ (w : ℕ) (ns : List ℕ) where
       same-p : (node_view t₁ p).shown ≡ (v.node p).shown
       same-p = ap (λ (w : View). (w.node p).shown) seen ∙ update-off (shown_of v) x (without_slot t x k) p other
 
-      placed : (place_of (v.node x).fence (v.node p).shown < length (v.node p).shown) × ((get_or (v.node p).shown (place_of (v.node x).fence (v.node p).shown) (slot 0 0)).pointer ≡ x)
-      placed = child-slot v 0 p x s.left parent.p-reached level-p (rw parent.once.shape (mem-here x parent.once.before parent.once.after)) f.not-left
+      placed : (place_of (v.node x).fence (v.node p).shown < length (v.node p).shown)
+          × ((get_or (v.node p).shown (place_of (v.node x).fence (v.node p).shown) (slot 0 0)).pointer ≡ x)
+      placed = child-slot v 0 p x s.left parent.p-reached level-p
+          (rw parent.once.shape (mem-here x parent.once.before parent.once.after)) f.not-left
 
+      -- after k is shifted out of a leaf with one slot that is not leftmost, the leaf can be freed
       pub freeable : Freeable w ns (apply (shift_out_at t (standing_at w t 0 k) k) t) (standing_at w t 1 k) (standing_at w t 0 k)
       freeable =
           let u = slot-same x (ap (λ (w : View). (w.node x).fence) seen) same-p placed in

@@ -1,16 +1,12 @@
 -- What is read of a node that is an empty leaf, as node 1 of the empty table.
-use mathlib.Core.Path.{◌≡◌}
-use mathlib.Core.Bool.{true}
-use mathlib.Core.List.{[]}
-use Prim.Native.Nat.{ℕ, ◌≤◌}
-use native.Mathlib.Omega.{arith}
-use lib.ListN.{replicate}
+use Rattle.std.proofs.Common.{◌≡◌, ℕ, ◌≤◌, true, [], replicate, arith}
 use Rattle.model.specs.declared.Node.{Node}
 use Rattle.model.specs.Table.{MARK, Words, all_zero, node, spare, empty}
 use Rattle.model.specs.Slots.{slots_of, in_use, shown, hidden_slots, used, clear_in, node_view}
 use Rattle.view_laws.proofs.NodeViews.{new_node}
 use Rattle.table_laws.proofs.Empty.{empty-leaf, empty-spare}
 
+-- what is read of an empty leaf: left MARK, and zeros
 abbrev pub empty_leaf : Node
 empty_leaf = record { left = MARK; sibling = 0; level = 0; fence = 0; slots = replicate 24 0 }
 
@@ -28,6 +24,7 @@ module _ (t : Words) (i : ℕ) (leaf : node t i ≡ empty_leaf) (spares : spare 
   unfolding clear_in all_zero
   clear = rw (spares, leaf)
 
+  -- an empty leaf is on level 0, with fence 0, no sibling and no slots, shown or hidden
   pub leaf-view : node_view t i ≡ new_node MARK 0 0 0 []
   leaf-view = λ j. record {
     left = (leaf j).left;

@@ -1,9 +1,6 @@
 -- A node that a settled table does not reach.
-use mathlib.Core.Path.{◌≡◌, sym, ◌∙◌}
-use mathlib.Core.Bool.{true, false}
-use mathlib.Core.Logic.{◌≢◌}
-use mathlib.Core.List.{List, Memᴰ}
-use Prim.Native.Nat.{ℕ}
+use Rattle.std.proofs.Common.{◌≡◌, ℕ, true, false, ◌≢◌, List, sym, ◌∙◌}
+use mathlib.Core.List.{Memᴰ}
 use Rattle.model.specs.Table.{Words, nodes, in_range, has_node}
 use Rattle.model.specs.Slots.{node_view}
 use Rattle.model.specs.Reached.{reached}
@@ -34,4 +31,5 @@ module _ (w : ℕ) (ns : List ℕ) where
     free-other n m e = (elem-none b (reached (tree_at w t))).0 f.unreached (rw e at m)
 
     pub free-sibling : (n : ℕ) → Memᴰ n (reached (tree_at w t)) → (node_view t n).sibling ≢ b
-    free-sibling n m e = free-other (node_view t n).sibling (sibling-reached (tree_at w t) n s.left.orderly m (λ z. free-some t b f (sym e ∙ z))) e
+    free-sibling n m e =
+        free-other (node_view t n).sibling (sibling-reached (tree_at w t) n s.left.orderly m (λ z. free-some t b f (sym e ∙ z))) e

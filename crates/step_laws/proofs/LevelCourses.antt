@@ -1,13 +1,7 @@
 -- One level of a tree over the stores of a write: it is quiet, it turns once, or a node of it is passed over. These join as phases do.
-use mathlib.Core.Path.{◌≡◌, refl, ap, sym, ◌∙◌}
-use mathlib.Core.Logic.{◌≢◌, ◌⊎◌, inl, inr}
-use mathlib.Core.Bool.{Bool, true, false}
-use mathlib.Core.List.{List, [], ◌∷◌, ◌++◌, append_assoc}
-use Prim.Native.Nat.{ℕ, zero, suc}
-use lib.Dec.{ltb}
-use lib.ListN.{length, take}
-use lib.Seq.{take_all, take-length}
-use borrow.Author.Tests.{ltb-true, ltb-false}
+use Rattle.std.proofs.Common.{◌≡◌, ℕ, zero, suc, Bool, true, false, ltb, ◌≢◌, ◌⊎◌, List, [], ◌∷◌, ◌++◌, length, take, sym, refl, ap, ◌∙◌}
+use Rattle.std.proofs.Common.{inl, inr, append_assoc, take_all, ltb-false, ltb-true}
+use lib.Seq.{take-length}
 use Rattle.model.specs.Table.{Words}
 use Rattle.model.specs.Slots.{View}
 use Rattle.model.specs.Orders.{Store, apply}
@@ -23,6 +17,7 @@ use Rattle.step_laws.proofs.Rowwise.{OnRow, Same, Straight, Comes, same-refl, sa
 pub whole : (P : Words → Type 0) (ss : List Store) (t : Words) → ((j : ℕ) → P (apply (take j ss) t)) → P (apply ss t)
 whole P ss t f = rw take-length at (f (length ss))
 
+-- what holds before each store and at the end holds after each first part of the stores
 pub each-part : (P : Words → Type 0) (ss : List Store) (t : Words) → Until do_store P P ss t → (j : ℕ) → P (apply (take j ss) t)
 each-part P ss t a j = go (ltb j (length ss)) refl
   where
@@ -66,6 +61,7 @@ module _ (see : Words → View) where
     pub same : Same l (see t) (see t')
     pub straight : Straight l (see t')
 
+  -- after each first part of the stores, level l is as at first, and no node of it lacks its slot
   abbrev pub Quiet : ℕ → Words → List Store → Type 0
   Quiet l t ss = (j : ℕ) → QuietAt l t (apply (take j ss) t)
 
@@ -73,6 +69,7 @@ module _ (see : Words → View) where
   abbrev pub Still : ℕ → Words → List Store → Type 0
   Still l t ss = (j : ℕ) → Same l (see t) (see (apply (take j ss) t))
 
+  -- a level that is quiet stays as it is
   pub quiet-still : (l : ℕ) (t : Words) (ss : List Store) → Quiet l t ss → Still l t ss
   quiet-still l t ss q j = (q j).same
 
@@ -95,16 +92,19 @@ module _ (see : Words → View) where
       let e = whole (λ (u : Words). Same l (see t) (see u)) ss t f in
       always-append (λ (u : Words). Same l (see t) (see u)) ss us t f (λ j. same-trans l _ _ _ e (g j))
 
+  -- a level that is quiet over the one part and then over the other is quiet over both
   pub quiet-append : (l : ℕ) (t : Words) (ss us : List Store) → Quiet l t ss → Quiet l (apply ss t) us → Quiet l t (ss ++ us)
   quiet-append l t ss us f g =
       let e = whole (QuietAt l t) ss t f in
       always-append (QuietAt l t) ss us t f (λ j. record { same = same-trans l _ _ _ e.same (g j).same; straight = (g j).straight })
 
+  -- a level without lacking slots is quiet over no stores
   pub quiet-nil : (l : ℕ) (t : Words) → Straight l (see t) → Quiet l t []
   unfolding apply
   quiet-nil l t s zero = record { same = same-refl l (see t); straight = s }
   quiet-nil l t s (suc j) = record { same = same-refl l (see t); straight = s }
 
+  -- a level stays as it is over no stores
   pub still-nil : (l : ℕ) (t : Words) → Still l t []
   unfolding apply
   still-nil l t zero = same-refl l (see t)
@@ -122,6 +122,7 @@ module _ (see : Words → View) where
     pub crosses : Crosses l (see (apply before t)) (see (do_store it (apply before t)))
     pub still : Still l (do_store it (apply before t)) after
 
+  -- level l is quiet over the stores, or it is turned by one of them
   abbrev pub MayTurn : ℕ → Words → List Store → Type 0
   MayTurn l t ss = Quiet l t ss ⊎ Turn l t ss
 
@@ -138,10 +139,12 @@ module _ (see : Words → View) where
         still = rw e u.still;
       }
 
+  -- a level that is turned, and then stays as it is, is turned
   pub turn-quiet : (l : ℕ) (t : Words) (ss us : List Store) → Turn l t ss → Still l (apply ss t) us → Turn l t (ss ++ us)
   unfolding apply
   turn-quiet l t ss us u q =
-      let e : apply ss t ≡ apply u.after (do_store u.it (apply u.before t)) = ap (λ (x : List Store). apply x t) u.shape ∙ apply-append u.before (u.it ∷ u.after) t in
+      let e : apply ss t ≡ apply u.after (do_store u.it (apply u.before t)) =
+      ap (λ (x : List Store). apply x t) u.shape ∙ apply-append u.before (u.it ∷ u.after) t in
       record {
         before = u.before;
         it = u.it;
@@ -157,6 +160,7 @@ module _ (see : Words → View) where
   may-turn-quiet l t ss us (inl q) r = inl (quiet-append l t ss us q r)
   may-turn-quiet l t ss us (inr u) r = inr (turn-quiet l t ss us u (quiet-still l _ us r))
 
+  -- a level that is quiet, and then quiet or turned, is quiet or turned
   pub quiet-may-turn : (l : ℕ) (t : Words) (ss us : List Store) → Quiet l t ss → MayTurn l (apply ss t) us → MayTurn l t (ss ++ us)
   quiet-may-turn l t ss us q (inl r) = inl (quiet-append l t ss us q r)
   quiet-may-turn l t ss us q (inr u) = inr (quiet-turn l t ss us q u)
@@ -173,6 +177,7 @@ module _ (see : Words → View) where
     pub still : Still l t before
     pub skips : Skipped l a b (see (apply before t)) (see (do_store it (apply before t)))
 
+  -- stores that leave a level as it is may come before stores of which the last passes over a node
   pub still-skip : (l : ℕ) (t : Words) (ss us : List Store) → Still l t ss → Skip l (apply ss t) us → Skip l t (ss ++ us)
   still-skip l t ss us q u =
       let e = apply-append ss u.before t in

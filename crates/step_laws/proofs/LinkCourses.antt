@@ -1,13 +1,8 @@
 -- Stores to a free node, and the store that links it: what each level keeps.
-use mathlib.Core.Path.{◌≡◌, refl, ap, sym, ◌∙◌}
-use mathlib.Core.Bool.{Bool, true, false, ◌||◌}
-use mathlib.Core.Logic.{◌≢◌, ◌⊎◌, inl, inr, ⊎_elim}
-use mathlib.Core.List.{List, [], ◌∷◌, Memᴰ}
-use Prim.Native.Nat.{ℕ, ◌<◌}
-use native.Mathlib.Omega.{arith}
-use lib.Dec.{eqb, ltb}
-use lib.ListN.{length}
-use borrow.Author.Tests.{eqb-true, eqb-false, ltb-false, ne_eqb}
+use Rattle.std.proofs.Common.{◌≡◌, ℕ, ◌<◌, Bool, true, false, ◌||◌, eqb, ltb, ◌≢◌, ◌⊎◌, List, [], ◌∷◌, length, sym, refl, ap, ◌∙◌, inl, inr}
+use Rattle.std.proofs.Common.{⊎_elim, arith, ltb-false, ne_eqb, eqb-true}
+use mathlib.Core.List.{Memᴰ}
+use borrow.Author.Tests.{eqb-false}
 use Rattle.model.specs.Table.{Words, node_start}
 use Rattle.model.specs.Slots.{Slot, View, height}
 use Rattle.model.specs.Search.{below, within}
@@ -41,11 +36,16 @@ use Rattle.step_laws.proofs.TreeAt.{tree_at, Fine}
 
 -- ---- what changes only in a node that is not reached: a free one, or one of another tree
 
-pub unreached-quiet : (v v' : View) (b : ℕ) → v'.nodes ≡ v.nodes → v'.root ≡ v.root → AllBut v.node v'.node b → HasLeft v nothing → b ≢ 0 → elem b (reached v) ≡ false
+-- a change in a node that is not reached, in a settled tree, leaves each level as it is, with no slot lacking
+pub unreached-quiet : (v v' : View) (b : ℕ) → v'.nodes ≡ v.nodes → v'.root ≡ v.root → AllBut v.node v'.node b → HasLeft v nothing → b ≢ 0
+    → elem b (reached v) ≡ false
     → (l : ℕ) → Same l v v' × Straight l v'
 unreached-quiet v v' b N r a h z e l =
-    let k = unreached-keeps v v' b N r a nothing h z e in
-    (same-views v v' k.reached (λ n m. let q = a.else n (λ y. (elem-none b (reached v)).0 e (rw y at m)) in (level-eq q, fence-eq q, sibling-eq q)) l, none-straight v' k.left.left.2 l)
+    let k = unreached-keeps v v' b N r a nothing h z e in (
+      same-views v v' k.reached
+          (λ n m. let q = a.else n (λ y. (elem-none b (reached v)).0 e (rw y at m)) in (level-eq q, fence-eq q, sibling-eq q)) l,
+      none-straight v' k.left.left.2 l,
+    )
 
 -- ---- a new root
 
@@ -81,14 +81,18 @@ splice-cases a b x (n ∷ ns) m = go (eqb n a) refl (splice-cases a b x ns)
     go true c ih =
         let e = eqb-true n a c in
         let q : splice a b (n ∷ ns) ≡ a ∷ b ∷ splice a b ns = ap (λ (y : ℕ). splice a b (y ∷ ns)) e ∙ splice-at a b ns in
-        ⊎_elim (λ y. inr (mathlib.Core.List.Memᴰ.head (y ∙ sym e))) (λ y. ⊎_elim (λ z. inl z) (λ z. later (ih z)) (mathlib.Core.List.Memᴰ.cases_cons y)) (mathlib.Core.List.Memᴰ.cases_cons (rw q at m))
+        ⊎_elim (λ y. inr (mathlib.Core.List.Memᴰ.head (y ∙ sym e)))
+        (λ y. ⊎_elim (λ z. inl z) (λ z. later (ih z)) (mathlib.Core.List.Memᴰ.cases_cons y))
+        (mathlib.Core.List.Memᴰ.cases_cons (rw q at m))
     go false c ih =
-        ⊎_elim (λ y. inr (mathlib.Core.List.Memᴰ.head y)) (λ y. later (ih y)) (mathlib.Core.List.Memᴰ.cases_cons (rw (splice-off a b n ns (eqb-false n a c)) at m))
+        ⊎_elim (λ y. inr (mathlib.Core.List.Memᴰ.head y)) (λ y. later (ih y))
+        (mathlib.Core.List.Memᴰ.cases_cons (rw (splice-off a b n ns (eqb-false n a c)) at m))
 
 pub splice-each : (P : ℕ → Type 0) (a b : ℕ) (ns : List ℕ) → P b → Each P ns → Each P (splice a b ns)
 splice-each P a b ns h e = mem-each P (splice a b ns) (λ x m. ⊎_elim (λ q. rw q h) (λ y. each-mem P e y) (splice-cases a b x ns m))
 
-module _ (v : View) (A B : ℕ) (low : List Slot) (s : Slot) (high : List Slot) (q : ℕ) (h : HasLeft v nothing) (p : Splits v A B low s high) (y : Parent v A q) where
+module _ (v : View) (A B : ℕ) (low : List Slot) (s : Slot) (high : List Slot) (q : ℕ) (h : HasLeft v nothing) (p : Splits v A B low s high)
+    (y : Parent v A q) where
   abbrev w : View
   w = with_sibling v A B
 
@@ -105,7 +109,11 @@ module _ (v : View) (A B : ℕ) (low : List Slot) (s : Slot) (high : List Slot) 
   pub link-same : (l : ℕ) → l ≢ (v.node A).level → Same l v (with_sibling v A B)
   link-same l z = record {
     there = keep l;
-    back = λ n r. (⊎_elim (λ e. absurd (z (sym r.1 ∙ ap (level_of v) e ∙ level-eq p.b-node))) (λ m. m) (splice-cases A B n (reached v) (rw k.reached at r.0)), r.1);
+    back = λ n r. (
+      ⊎_elim (λ e. absurd (z (sym r.1 ∙ ap (level_of v) e ∙ level-eq p.b-node))) (λ m. m)
+          (splice-cases A B n (reached v) (rw k.reached at r.0)),
+      r.1,
+    );
     fence = λ n r. refl;
     sibling = λ n r. update-off (sibling_of v) A B n (λ e. z (sym r.1 ∙ ap (level_of v) e));
   }
@@ -121,7 +129,9 @@ module _ (v : View) (A B : ℕ) (low : List Slot) (s : Slot) (high : List Slot) 
       plain : (n : ℕ) → n ≢ A → Stands v c (v.node A).level n → Comes w c (v.node A).level n
       plain n z d =
           let r = keep (v.node A).level n (d.reached, d.covers.at.level) in
-          stands-comes w o c (v.node A).level n (stands w c (v.node A).level n o r.0 r.1 d.covers.fence (ap (λ (x : ℕ). eqb x 0 || ltb c (v.node x).fence) (update-off (sibling_of v) A B n z) ∙ d.covers.inside))
+          stands-comes w o c (v.node A).level n
+          (stands w c (v.node A).level n o r.0 r.1 d.covers.fence
+          (ap (λ (x : ℕ). eqb x 0 || ltb c (v.node x).fence) (update-off (sibling_of v) A B n z) ∙ d.covers.inside))
 
       split : Stands v c (v.node A).level A → Comes w c (v.node A).level A
       split d = go (ltb c (v.node B).fence) refl
@@ -131,12 +141,17 @@ module _ (v : View) (A B : ℕ) (low : List Slot) (s : Slot) (high : List Slot) 
 
           go : (b : Bool) → ltb c (v.node B).fence ≡ b → Comes w c (v.node A).level A
           go true e =
-              stands-comes w o c (v.node A).level A (stands w c (v.node A).level A o r.0 refl d.covers.fence (ap (λ (x : ℕ). eqb x 0 || ltb c (v.node x).fence) (update-at (sibling_of v) A B) ∙ or-right (eqb B 0) _ e))
+              stands-comes w o c (v.node A).level A
+              (stands w c (v.node A).level A o r.0 refl d.covers.fence
+              (ap (λ (x : ℕ). eqb x 0 || ltb c (v.node x).fence) (update-at (sibling_of v) A B) ∙ or-right (eqb B 0) _ e))
           go false e =
-              let out : within w A c ≡ false = ap (λ (x : ℕ). eqb x 0 || ltb c (v.node x).fence) (update-at (sibling_of v) A B) ∙ ap (λ (b : Bool). b || ltb c (v.node B).fence) (ne_eqb B 0 (not-zero v B p.b-range)) ∙ e in
+              let out : within w A c ≡ false =
+              ap (λ (x : ℕ). eqb x 0 || ltb c (v.node x).fence) (update-at (sibling_of v) A B)
+              ∙ ap (λ (b : Bool). b || ltb c (v.node B).fence) (ne_eqb B 0 (not-zero v B p.b-range)) ∙ e in
               let m : Memᴰ B (reached w) = rw k.reached (splice-in A B (reached v) (once A (reached v) h.orderly.once p.a-reached)) in
               let x : Stands w c (v.node A).level B = stands w c (v.node A).level B o m (level-eq p.b-node) (ltb-false c (v.node B).fence e)
-              (ap (λ (x : ℕ). eqb x 0 || ltb c (v.node x).fence) (update-off (sibling_of v) A B B other ∙ sibling-eq p.b-node) ∙ d.covers.inside) in
+              (ap (λ (x : ℕ). eqb x 0 || ltb c (v.node x).fence)
+              (update-off (sibling_of v) A B B other ∙ sibling-eq p.b-node) ∙ d.covers.inside) in
               record { row = r; stands = rw (moves w c A out ∙ update-at (sibling_of v) A B) x }
 
   pub link-crosses : Crosses (v.node A).level v (with_sibling v A B)
@@ -150,10 +165,13 @@ module _ (w : ℕ) (ns : List ℕ) where
     free-quiet l t' o =
         let u = free-stays w ns t b s f t' o in
         record {
-          same = same-views (tree_at w t) (tree_at w t') u.reached (λ n m. let q = u.node.else n (free-other w ns t b s f n m) in (level-eq q, fence-eq q, sibling-eq q)) l;
+          same = same-views (tree_at w t) (tree_at w t') u.reached
+              (λ n m. let q = u.node.else n (free-other w ns t b s f n m) in (level-eq q, fence-eq q, sibling-eq q)) l;
           straight = none-straight (tree_at w t') u.fine.left.left.2 l;
         }
 
+    -- while the 32 words of a free node are stored, each level is quiet
     pub whole-quiet : (ws : Words) → length ws ≡ 32 → (l : ℕ) → Quiet (tree_at w) l t (put_all (node_start b) ws)
     whole-quiet ws e l = each-part (QuietAt (tree_at w) l t) (put_all (node_start b) ws) t
-        (until-map do_store (Elsewhere b t) (QuietAt (tree_at w) l t) (Elsewhere b t) (QuietAt (tree_at w) l t) (free-quiet l) (free-quiet l) (put_all (node_start b) ws) t (put-all-along t b ws (omega arith)))
+        (until-map do_store (Elsewhere b t) (QuietAt (tree_at w) l t) (Elsewhere b t) (QuietAt (tree_at w) l t) (free-quiet l)
+        (free-quiet l) (put_all (node_start b) ws) t (put-all-along t b ws (omega arith)))

@@ -1,11 +1,6 @@
 -- A new root: every store leaves a settled table with the same map, and the search path grows by the new root.
-use mathlib.Core.Path.{◌≡◌, refl, ap, sym, ◌∙◌}
-use mathlib.Core.Logic.{◌≢◌, ◌⊎◌}
-use mathlib.Core.List.{List, [], ◌∷◌, Memᴰ}
-use Prim.Native.Nat.{ℕ, suc, ◌≤◌, ◌<◌}
-use native.Mathlib.Omega.{arith}
-use borrow.Author.Tests.{ne_eqb}
-use lib.ListN.{length, set}
+use Rattle.std.proofs.Common.{◌≡◌, ℕ, suc, ◌<◌, ◌≤◌, ◌≢◌, ◌⊎◌, List, [], ◌∷◌, length, set, sym, refl, ap, ◌∙◌, arith, ne_eqb}
+use mathlib.Core.List.{Memᴰ}
 use Rattle.model.specs.Table.{Words, node_start}
 use Rattle.model.specs.Slots.{NodeView, View, node_view, height}
 use Rattle.model.specs.Search.{below}
@@ -34,7 +29,8 @@ use Rattle.step_laws.proofs.TreeAt.{tree_at, Fine, map_at, standing_at, root_at,
 
 module _ (w : ℕ) (ns : List ℕ) where
   -- into a free node r
-  module _ (t : Words) (s : Fine w ns t nothing) (low : height (tree_at w t) < 15) (which : (w ≡ 1) ⊎ (w ≡ 3)) (r : ℕ) (f : Free w ns t r) where
+  module _ (t : Words) (s : Fine w ns t nothing) (low : height (tree_at w t) < 15) (which : (w ≡ 1) ⊎ (w ≡ 3)) (r : ℕ)
+      (f : Free w ns t r) where
     abbrev v : View
     v = tree_at w t
 
@@ -92,12 +88,14 @@ module _ (w : ℕ) (ns : List ℕ) where
         (f, ap mapping seen ∙ rooted.mapping ∙ stays.mapping)
 
     link-phase : Phase w ns 2 t₁ (put w r ∷ []) (map_at w t)
-    link-phase = phase-until w ns 2 t₁ (put w r ∷ []) (unfold orders orders_after in omega arith) (omega (arith, stays.fine.header.size.long, s.low), tt) (map_at w t)
+    link-phase = phase-until w ns 2 t₁ (put w r ∷ []) (unfold orders orders_after in omega arith)
+        (omega (arith, stays.fine.header.size.long, s.low), tt) (map_at w t)
         (((nothing, stays.fine), refl), settles)
 
     -- New root: every first part of its stores leaves a sound table with the same map.
     pub root-phase : Phase w ns 38 t (new_root_at w t r) (map_at w t)
-    root-phase = stage-phase w ns 36 2 t (put_all (node_start r) ws) (put w r ∷ []) (map_at w t) (whole-stage w ns t r (root_at w t) 0 (suc (height v)) 0 [] s f) link-phase
+    root-phase = stage-phase w ns 36 2 t (put_all (node_start r) ws) (put w r ∷ []) (map_at w t)
+        (whole-stage w ns t r (root_at w t) 0 (suc (height v)) 0 [] s f) link-phase
 
     -- ---- every level is quiet but the new one, which has no node before
 
@@ -107,9 +105,11 @@ module _ (w : ℕ) (ns : List ℕ) where
     link-quiet : (l : ℕ) → l ≢ suc (height v) → Quiet (tree_at w) l t₁ (put w r ∷ [])
     link-quiet l z = each-part (QuietAt (tree_at w) l t₁) (put w r ∷ []) t₁ (
       record { same = same-refl l v₁; straight = none-straight v₁ stays.fine.left.left.2 l },
-      seen-quiet w l t₁ t₂ (with_root v₁ r) seen (root-same v₁ r rooted.reached l (λ e. z (e ∙ level-eq new))) (none-straight (with_root v₁ r) rooted.left.left.2 l),
+      seen-quiet w l t₁ t₂ (with_root v₁ r) seen (root-same v₁ r rooted.reached l (λ e. z (e ∙ level-eq new)))
+          (none-straight (with_root v₁ r) rooted.left.left.2 l),
     )
 
+    -- while a new root is made, each level is quiet but its own
     pub root-quiet : (l : ℕ) → l ≢ suc (height (tree_at w t)) → Quiet (tree_at w) l t (new_root_at w t r)
     root-quiet l z = quiet-append (tree_at w) l t (put_all (node_start r) ws) (put w r ∷ []) (words-quiet l) (link-quiet l z)
 
@@ -128,19 +128,27 @@ module _ (w : ℕ) (ns : List ℕ) where
 
     top-stands : (k : ℕ) → Stands (tree_at w t₂) k (suc (height v)) r
     unfolding below
-    top-stands k = rw seen (stands (with_root v₁ r) k (suc (height v)) r rooted.left.orderly (rw rooted.reached (Memᴰ.head refl)) (level-eq new) (rw (fence-eq new) (omega arith)) (rw (sibling-eq new)))
+    top-stands k = rw seen
+        (stands (with_root v₁ r) k (suc (height v)) r rooted.left.orderly (rw rooted.reached (Memᴰ.head refl)) (level-eq new)
+        (rw (fence-eq new) (omega arith)) (rw (sibling-eq new)))
 
     after : apply (new_root_at w t r) t ≡ t₂
     unfolding apply
     after = apply-append (put_all (node_start r) ws) (put w r ∷ []) t
 
     -- the header's store turns the new level
-    pub root-turns : Crosses (suc (height (tree_at w t))) (tree_at w (apply (put_all (node_start r) (node_words (root_at w t) 0 (suc (height (tree_at w t))) 0 [])) t)) (tree_at w (apply (new_root_at w t r) t))
-    root-turns = rw after (seen-crosses (suc (height v)) v₁ (tree_at w t₂) (with_root v₁ r) seen (root-crosses v₁ r rooted.reached stays.fine.left.orderly (suc (height v)) (omega (arith, same-height))))
+    pub root-turns : Crosses (suc (height (tree_at w t)))
+        (tree_at w (apply (put_all (node_start r) (node_words (root_at w t) 0 (suc (height (tree_at w t))) 0 [])) t))
+        (tree_at w (apply (new_root_at w t r) t))
+    root-turns = rw after
+        (seen-crosses (suc (height v)) v₁ (tree_at w t₂) (with_root v₁ r) seen
+        (root-crosses v₁ r rooted.reached stays.fine.left.orderly (suc (height v)) (omega (arith, same-height))))
 
+    -- a new root makes the tree one level higher
     pub root-height : height (tree_at w (apply (new_root_at w t r) t)) ≡ suc (height (tree_at w t))
     root-height = rw after up
 
+    -- a new root makes one more node reached
     pub root-takes : length (reached (tree_at w (apply (new_root_at w t r) t))) ≡ suc (length (reached (tree_at w t)))
     root-takes = rw after (ap length reach)
 
@@ -151,13 +159,21 @@ module _ (w : ℕ) (ns : List ℕ) where
 
     -- the path to k has the nodes that it had, and above them the new root, which shows nothing
     pub root-standing : (k d : ℕ) → d ≤ height (tree_at w t) → standing_at w (apply (new_root_at w t r) t) d k ≡ standing_at w t d k
-    root-standing k d h = rw after (standing-is w ns t₂ settles.0 k d (standing_at w t d k) (old-stands k d (standing_at w t d k) (standing-stands w ns t s k d h)))
+    root-standing k d h =
+        rw after (standing-is w ns t₂ settles.0 k d (standing_at w t d k)
+        (old-stands k d (standing_at w t d k) (standing-stands w ns t s k d h)))
 
+    -- a new root does not change what the other nodes show
     pub root-shown : (n : ℕ) → Memᴰ n (reached (tree_at w t)) → (node_view (apply (new_root_at w t r) t) n).shown ≡ (node_view t n).shown
     root-shown n m = rw after (ap (λ (x : View). (x.node n).shown) seen ∙ shown-eq (stays.node.else n (free-other w ns t r s f n m)))
 
+    -- after a new root r, a search stands on r on the top level
     pub root-top : (k : ℕ) → standing_at w (apply (new_root_at w t r) t) (suc (height (tree_at w t))) k ≡ r
     root-top k = rw after (standing-is w ns t₂ settles.0 k (suc (height v)) r (top-stands k))
 
-    pub root-shows : (k : ℕ) → ((tree_at w (apply (new_root_at w t r) t)).node (standing_at w (apply (new_root_at w t r) t) (suc (height (tree_at w t))) k)).shown ≡ []
-    root-shows k = ap (shown_of (tree_at w (apply (new_root_at w t r) t))) (root-top k) ∙ rw after (ap (λ (x : View). (x.node r).shown) seen ∙ shown-eq new)
+    -- a new root shows no slots
+    pub root-shows : (k : ℕ)
+        → ((tree_at w (apply (new_root_at w t r) t)).node
+        (standing_at w (apply (new_root_at w t r) t) (suc (height (tree_at w t))) k)).shown ≡ []
+    root-shows k = ap (shown_of (tree_at w (apply (new_root_at w t r) t))) (root-top k)
+        ∙ rw after (ap (λ (x : View). (x.node r).shown) seen ∙ shown-eq new)

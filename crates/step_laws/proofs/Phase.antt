@@ -1,10 +1,5 @@
 -- A phase of a write: its stores, each first part of which leaves a sound table with the old map or the new one. Phases join.
-use mathlib.Core.Path.{◌≡◌, refl}
-use mathlib.Core.Logic.{◌⊎◌, inl}
-use mathlib.Core.List.{List, []}
-use Prim.Native.Nat.{ℕ, ◌≤◌}
-use native.Mathlib.Omega.{arith}
-use lib.ListN.{length, take}
+use Rattle.std.proofs.Common.{◌≡◌, ℕ, ◌≤◌, ◌⊎◌, List, [], length, take, refl, inl, arith}
 use lib.Seq.{take-nil}
 use Rattle.model.specs.Table.{Words}
 use Rattle.model.specs.Slots.{Slot}

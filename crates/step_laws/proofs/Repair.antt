@@ -1,13 +1,8 @@
 -- Repair: close, cut and attach, store by store. Every store leaves a sound table with the same map, and the last a settled one.
-use mathlib.Core.Path.{◌≡◌, refl, ap, sym, ◌∙◌}
-use mathlib.Core.Logic.{◌≢◌}
-use mathlib.Core.Bool.{true, false}
-use mathlib.Core.List.{List, [], ◌∷◌, ◌++◌, append_assoc, Memᴰ}
+use Rattle.std.proofs.Common.{◌≡◌, ℕ, ◌<◌, ◌≤◌, true, false, ◌≢◌, List, [], ◌∷◌, ◌++◌, length, take, sym, refl, ap, ◌∙◌, append_assoc}
+use Rattle.std.proofs.Common.{arith, length-append, leb-true}
+use mathlib.Core.List.{Memᴰ}
 use mathlib.Core.Option.{some}
-use Prim.Native.Nat.{ℕ, ◌≤◌, ◌<◌}
-use native.Mathlib.Omega.{arith}
-use lib.ListN.{length, take, length-append}
-use borrow.Author.Tests.{leb-true}
 use Rattle.model.specs.Table.{Words, node_start}
 use Rattle.model.specs.Slots.{Slot, NodeView, View, node_view, height}
 use Rattle.model.specs.Reached.{pointers, kept, children, reached}
@@ -40,7 +35,8 @@ use Rattle.step_laws.proofs.Bounds.{shift-in-few, shift-in-inside, close-few, cl
 use Rattle.step_laws.proofs.Rowwise.{same-refl, none-straight, only-straight}
 use Rattle.step_laws.proofs.LevelCourses.{CalmAt, each-part}
 use Rattle.step_laws.proofs.SlotCourses.{hidden-still, hidden-keeps, slots-still, slots-quiet}
-use Rattle.step_laws.proofs.Views.{shown-view, hidden-view, same-view, view-fine, view-keeps, view-settles, keeps-settles, view-same, may-hide, Usable, reached-usable, used-few, shown-few}
+use Rattle.step_laws.proofs.Views.{shown-view, hidden-view, same-view, view-fine, view-keeps, view-settles, keeps-settles, view-same}
+use Rattle.step_laws.proofs.Views.{may-hide, Usable, reached-usable, used-few, shown-few}
 use Rattle.step_laws.proofs.LeafShift.{not-pointed}
 use Rattle.step_laws.proofs.TreeAt.{tree_at, Sound, Fine, map_at, repair_at, repaired_at}
 
@@ -61,11 +57,14 @@ module _ (v : View) (p a : ℕ) (o : Orderly v) (g : MissingOnly v p a) where
   a-child = rw row (mem-here a before ((v.node a).sibling ∷ after))
 
   sibling-child : Memᴰ (v.node a).sibling (children v p)
-  sibling-child = rw (row ∙ sym (append_assoc before (a ∷ []) ((v.node a).sibling ∷ after))) (mem-here (v.node a).sibling (before ++ a ∷ []) after)
+  sibling-child = rw (row ∙ sym (append_assoc before (a ∷ []) ((v.node a).sibling ∷ after)))
+      (mem-here (v.node a).sibling (before ++ a ∷ []) after)
 
   pub sibling-some : (v.node a).sibling ≢ 0
-  sibling-some = not-zero v (v.node a).sibling (each-mem (Bounded v (height v)) (reached-bounds v o) (child-reached v p (v.node a).sibling o g.member sibling-child)).0
+  sibling-some = not-zero v (v.node a).sibling
+      (each-mem (Bounded v (height v)) (reached-bounds v o) (child-reached v p (v.node a).sibling o g.member sibling-child)).0
 
+  -- the node whose sibling lacks its slot is reached
   pub a-reached : Memᴰ a (reached v)
   a-reached = child-reached v p a o g.member a-child
 
@@ -76,7 +75,8 @@ module _ (v : View) (p a : ℕ) (o : Orderly v) (g : MissingOnly v p a) where
 module _ (w : ℕ) (ns : List ℕ) where
   -- ---- close
 
-  module _ (t : Words) (x : ℕ) (y : Leftover) (f : Fine w ns t y) (m : Memᴰ x (reached (tree_at w t))) (one : (node_view t x).hidden ≡ 1) where
+  module _ (t : Words) (x : ℕ) (y : Leftover) (f : Fine w ns t y) (m : Memᴰ x (reached (tree_at w t)))
+      (one : (node_view t x).hidden ≡ 1) where
     use-x : Usable t x
     use-x = reached-usable w t x f.header f.left.orderly m
 
@@ -102,12 +102,16 @@ module _ (w : ℕ) (ns : List ℕ) where
     inside = close-inside t x (used-few t x use-x.clear) one use-x.there
 
     close-settles : Keeps (tree_at w t) (with_hidden (tree_at w t) x 0) nothing → Phase w ns 24 t (close_at t x) (map_at w t)
-    close-settles k = phase-until w ns 24 t (close_at t x) few inside (map_at w t) (until-map do_store _ (SoundWith w ns (map_at w t)) _ (SettledWith w ns (map_at w t)) still
+    close-settles k = phase-until w ns 24 t (close_at t x) few inside (map_at w t)
+        (until-map do_store _ (SoundWith w ns (map_at w t)) _ (SettledWith w ns (map_at w t)) still
         (λ t' c. view-settles w ns t t' _ (closed t' c) c.header f (map_at w t) (keeps-settles (tree_at w t) _ k)) (close_at t x) t closing)
 
-    close-keeps : (y' : Leftover) → Keeps (tree_at w t) (with_hidden (tree_at w t) x 0) y' → has_room (tree_at w t) y' ≡ true → Stage w ns 24 t (close_at t x) × Fine w ns (apply (close_at t x) t) y'
+    close-keeps : (y' : Leftover) → Keeps (tree_at w t) (with_hidden (tree_at w t) x 0) y' → has_room (tree_at w t) y' ≡ true
+        → Stage w ns 24 t (close_at t x) × Fine w ns (apply (close_at t x) t) y'
     close-keeps y' k r = (
-      stage-until w ns 24 t (close_at t x) few inside (until-map do_store _ (SoundWith w ns (map_at w t)) _ (SoundWith w ns (map_at w t)) still (λ t' c. view-keeps w ns t t' _ (closed t' c) c.header f y' k r) (close_at t x) t closing),
+      stage-until w ns 24 t (close_at t x) few inside
+          (until-map do_store _ (SoundWith w ns (map_at w t)) _ (SoundWith w ns (map_at w t)) still
+          (λ t' c. view-keeps w ns t t' _ (closed t' c) c.header f y' k r) (close_at t x) t closing),
       view-fine w ns t _ _ close-seen close-changed.header f y' k.left (k.room r) (rw k.reached f.apart),
     )
 
@@ -116,8 +120,11 @@ module _ (w : ℕ) (ns : List ℕ) where
   close-phase t x f = let u = f.left.left.0 in close-settles t x (hidden_in x) f u.member u.here (unhide (tree_at w t) x f.left)
 
   -- (c): the hidden slot of the parent is closed, and leaves (b)
-  pub close-stage : (t : Words) (p a : ℕ) → Fine w ns t (both_in p a) → Stage w ns 24 t (close_at t p) × Fine w ns (apply (close_at t p) t) (missing_in p a false)
-  close-stage t p a f = let u = f.left.left.0 in close-keeps t p (both_in p a) f u.member u.here (missing_in p a false) (unhide-missing (tree_at w t) p a f.left) f.room
+  pub close-stage : (t : Words) (p a : ℕ) → Fine w ns t (both_in p a) → Stage w ns 24 t (close_at t p)
+      × Fine w ns (apply (close_at t p) t) (missing_in p a false)
+  close-stage t p a f = let u =
+      f.left.left.0 in close-keeps t p (both_in p a) f u.member u.here (missing_in p a false)
+      (unhide-missing (tree_at w t) p a f.left) f.room
 
   -- ---- attach
 
@@ -146,32 +153,44 @@ module _ (w : ℕ) (ns : List ℕ) where
 
     new-shown : AllShown (node_view t p).left (with_slot t p k b)
     new-shown =
-        let u = (elem-cons b (node_view t p).left (pointers (node_view t p).shown)).0 (ap (λ (ks : List Slot). elem b ((node_view t p).left ∷ pointers ks)) (sym p-keeps) ∙ attach-fresh (tree_at w t) p a f.left) in
-        put-in-shown (node_view t p).left (node_view t p).shown (place_of k (node_view t p).shown) k b (view-shown t p p-shows) (sibling-some (tree_at w t) p a f.left.orderly lacks) u.0 (not-pointed b (node_view t p).shown u.1)
+        let u = (elem-cons b (node_view t p).left (pointers (node_view t p).shown)).0
+        (ap (λ (ks : List Slot). elem b ((node_view t p).left ∷ pointers ks)) (sym p-keeps) ∙ attach-fresh (tree_at w t) p a f.left) in
+        put-in-shown (node_view t p).left (node_view t p).shown (place_of k (node_view t p).shown) k b (view-shown t p p-shows)
+        (sibling-some (tree_at w t) p a f.left.orderly lacks) u.0 (not-pointed b (node_view t p).shown u.1)
 
-    attaching : Until do_store (λ (t' : Words). (h : ℕ) × (h ≤ 1) × Changed t p (node_view t p).shown h t') (Changed t p (with_slot t p k b) 0) (attach t p a) t
+    attaching : Until do_store (λ (t' : Words). (h : ℕ) × (h ≤ 1) × Changed t p (node_view t p).shown h t')
+        (Changed t p (with_slot t p k b) 0) (attach t p a) t
     unfolding attach
     attaching = shift-in-view t p use-p.there use-p.clear use-p.left p-shows k b room-p new-shown
 
-    pub attach-changed : Changed t p (with_slot t p (node_view t (node_view t a).sibling).fence (node_view t a).sibling) 0 (apply (attach t p a) t)
+    pub attach-changed :
+        Changed t p (with_slot t p (node_view t (node_view t a).sibling).fence (node_view t a).sibling) 0 (apply (attach t p a) t)
     attach-changed = after-whole _ (Changed t p (with_slot t p k b) 0) (attach t p a) t attaching
 
-    pub attach-seen : tree_at w (apply (attach t p a) t) ≡ with_shown (tree_at w t) p (with_slot t p (node_view t (node_view t a).sibling).fence (node_view t a).sibling)
+    pub attach-seen : tree_at w (apply (attach t p a) t)
+        ≡ with_shown (tree_at w t) p (with_slot t p (node_view t (node_view t a).sibling).fence (node_view t a).sibling)
     attach-seen = shown-view w f.low t p (with_slot t p k b) 0 (apply (attach t p a) t) attach-changed p-shows
 
     -- (b) without slots to cut: the sibling's slot is shifted in at the parent
     pub attach-phase : Phase w ns 27 t (attach t p a) (map_at w t)
-    attach-phase = phase-until w ns 27 t (attach t p a) (unfold attach in shift-in-few t p k b room-p) (unfold attach in shift-in-inside t p k b room-p use-p.there) (map_at w t)
-        (until-map do_store _ (SoundWith w ns (map_at w t)) _ (SettledWith w ns (map_at w t)) (may-hide w ns t p (missing_in p a false) (both_in p a) f p-shows (hide-missing (tree_at w t) p a f.left) f.room)
-        (λ t' c. view-settles w ns t t' _ (shown-view w f.low t p _ 0 t' c p-shows) c.header f (map_at w t) (keeps-settles (tree_at w t) _ (attach-settles (tree_at w t) p a f.left))) (attach t p a) t attaching)
+    attach-phase = phase-until w ns 27 t (attach t p a) (unfold attach in shift-in-few t p k b room-p)
+        (unfold attach in shift-in-inside t p k b room-p use-p.there) (map_at w t)
+        (until-map do_store _ (SoundWith w ns (map_at w t)) _ (SettledWith w ns (map_at w t))
+        (may-hide w ns t p (missing_in p a false) (both_in p a) f p-shows (hide-missing (tree_at w t) p a f.left) f.room)
+        (λ t' c. view-settles w ns t t' _ (shown-view w f.low t p _ 0 t' c p-shows) c.header f (map_at w t)
+        (keeps-settles (tree_at w t) _ (attach-settles (tree_at w t) p a f.left))) (attach t p a) t attaching)
 
     -- every level stays, and only the one below p has a node that lacks its slot
     pub attach-calm : (l j : ℕ) → CalmAt (tree_at w) p l t (apply (take j (attach t p a)) t)
     attach-calm l =
         let k = attach-settles (tree_at w t) p a f.left in
         each-part (CalmAt (tree_at w) p l t) (attach t p a) t (until-map do_store _ (CalmAt (tree_at w) p l t) _ (CalmAt (tree_at w) p l t)
-        (λ t' u. record { same = hidden-still w f.low t p l u.0 t' u.2; straight = λ z. hidden-keeps w f.low t p l u.0 t' u.2 (only-straight (tree_at w t) p a lacks l z) })
-        (λ t' c. let q = slots-quiet w f.low t p l _ 0 t' c k.reached (none-straight _ k.left.left.2 l) in record { same = q.same; straight = λ z. q.straight }) (attach t p a) t attaching)
+        (λ t' u. record {
+          same = hidden-still w f.low t p l u.0 t' u.2;
+          straight = λ z. hidden-keeps w f.low t p l u.0 t' u.2 (only-straight (tree_at w t) p a lacks l z);
+        })
+        (λ t' c. let q = slots-quiet w f.low t p l _ 0 t' c k.reached (none-straight _ k.left.left.2 l) in record
+        { same = q.same; straight = λ z. q.straight }) (attach t p a) t attaching)
 
   -- ---- cut
 
@@ -217,23 +236,27 @@ module _ (w : ℕ) (ns : List ℕ) where
     cuts = cut-keeps v p a f.left
 
     pub cut-fine : Fine w ns (apply (cut_off t a) t) (missing_in p a false)
-    cut-fine = view-fine w ns t _ _ cut-seen cut-changed.header f (missing_in p a false) cuts.left (cuts.room f.room) (rw cuts.reached f.apart)
+    cut-fine = view-fine w ns t _ _ cut-seen cut-changed.header f (missing_in p a false) cuts.left (cuts.room f.room)
+        (rw cuts.reached f.apart)
 
     -- (b) with slots to cut: one store
     pub cut-stage : Stage w ns 2 t (cut_off t a)
     cut-stage = stage-until w ns 2 t (cut_off t a) (unfold cut_off orders orders_after in omega arith) in-table
-        (unfold cut_off apply in (((missing_in p a true, f), refl), view-keeps w ns t _ _ cut-seen cut-changed.header f (missing_in p a false) cuts f.room))
+        (unfold cut_off apply in
+        (((missing_in p a true, f), refl), view-keeps w ns t _ _ cut-seen cut-changed.header f (missing_in p a false) cuts f.room))
       where
         in-table : StoresInside (length t) (cut_off t a)
         in-table = unfold cut_off node_start in (omega (arith, place-in, shown-few t a use-a.clear, (has-node-iff t a).0 use-a.there), tt)
 
     pub cut-calm : (l j : ℕ) → CalmAt (tree_at w) p l t (apply (take j (cut_off t a)) t)
-    cut-calm l = each-part (CalmAt (tree_at w) p l t) (cut_off t a) t (unfold cut_off apply in (record { same = same-refl l v; straight = only-straight v p a missing l }, cut-at))
+    cut-calm l = each-part (CalmAt (tree_at w) p l t) (cut_off t a) t
+        (unfold cut_off apply in (record { same = same-refl l v; straight = only-straight v p a missing l }, cut-at))
       where
         cut-at : CalmAt (tree_at w) p l t (apply (cut_off t a) t)
         cut-at = record {
           same = slots-still w f.low t a l (kept v a) 0 _ cut-changed cuts.reached;
-          straight = λ z. (slots-quiet w f.low t a l (kept v a) 0 _ cut-changed cuts.reached (only-straight (with_shown v a (kept v a)) p a cuts.left.left.2 l z)).straight;
+          straight = λ z. (slots-quiet w f.low t a l (kept v a) 0 _ cut-changed cuts.reached
+              (only-straight (with_shown v a (kept v a)) p a cuts.left.left.2 l z)).straight;
         }
 
     -- the attach after it is the one that the uncut table has
@@ -243,7 +266,8 @@ module _ (w : ℕ) (ns : List ℕ) where
         let t' = apply (cut_off t a) t in
         let c = cut-changed.node in
         let e : (node_view t' a).sibling ≡ (v.node a).sibling = sibling-eq c.here in
-        let q : (node_view t' (node_view t' a).sibling).fence ≡ (v.node (v.node a).sibling).fence = ap (fence_of (tree_at w t')) e ∙ stays-all (λ (m : NodeView). m.fence) _ _ a _ c refl (v.node a).sibling in
+        let q : (node_view t' (node_view t' a).sibling).fence ≡ (v.node (v.node a).sibling).fence =
+        ap (fence_of (tree_at w t')) e ∙ stays-all (λ (m : NodeView). m.fence) _ _ a _ c refl (v.node a).sibling in
         let same = c.else p (parent-other v p a f.left.orderly missing) in
         ap (λ (j : ℕ). shift_in_at t' p j (node_view t' a).sibling) q ∙ ap (shift_in_at t' p (v.node (v.node a).sibling).fence) e
         ∙ shift-in-same t t' p (v.node (v.node a).sibling).fence (v.node a).sibling (left-eq same) (shown-eq same)
@@ -262,11 +286,13 @@ module _ (w : ℕ) (ns : List ℕ) where
   phase-of t (missing_in p a false) f = phase-within w ns 27 51 t (attach t p a) (map_at w t) (omega arith) (attach-phase t p a f)
   phase-of t (missing_in p a true) f =
       phase-within w ns 29 51 t (cut_off t a ++ attach t p a) (map_at w t) (omega arith)
-      (rw (cut-attach t p a f) at (stage-phase w ns 2 27 t (cut_off t a) (attach (apply (cut_off t a) t) p a) (map_at w t) (cut-stage t p a f)
+      (rw (cut-attach t p a f) at
+      (stage-phase w ns 2 27 t (cut_off t a) (attach (apply (cut_off t a) t) p a) (map_at w t) (cut-stage t p a f)
       (rw (stage-whole w ns 2 t (cut_off t a) (cut-stage t p a f)).1 at (attach-phase (apply (cut_off t a) t) p a (cut-fine t p a f)))))
   phase-of t (both_in p a) f =
       let u = close-stage t p a f in
-      stage-phase w ns 24 27 t (close_at t p) (attach (apply (close_at t p) t) p a) (map_at w t) u.0 (rw (stage-whole w ns 24 t (close_at t p) u.0).1 at (attach-phase (apply (close_at t p) t) p a u.1))
+      stage-phase w ns 24 27 t (close_at t p) (attach (apply (close_at t p) t) p a) (map_at w t) u.0
+      (rw (stage-whole w ns 24 t (close_at t p) u.0).1 at (attach-phase (apply (close_at t p) t) p a u.1))
 
   -- Repair of a sound table: every first part of its stores leaves a sound table with the same map, and all of them a settled one.
   pub repair-phase : (t : Words) → Sound w ns t → Phase w ns 51 t (repair_at w t) (map_at w t)

@@ -1,14 +1,8 @@
 -- The table as repair would leave it, read off the table itself: the same nodes and paths, and what each node then shows.
-use mathlib.Core.Path.{◌≡◌, refl, ap, sym, ◌∙◌}
-use mathlib.Core.Bool.{Bool, true, false, cond}
-use mathlib.Core.Logic.{◌≢◌}
-use mathlib.Core.List.{List, ◌∷◌, Memᴰ}
+use Rattle.std.proofs.Common.{◌≡◌, ℕ, ◌+◌, Bool, true, false, cond, eqb, ◌≢◌, List, ◌∷◌, length, take, drop, sym, refl, ap, ◌∙◌, arith}
+use Rattle.std.proofs.Common.{length-append, take-append-drop, eq-eqb, ne_eqb}
+use mathlib.Core.List.{Memᴰ}
 use mathlib.Core.Option.{Option, none, some}
-use Prim.Native.Nat.{ℕ, ◌+◌}
-use native.Mathlib.Omega.{arith}
-use lib.Dec.{eqb}
-use lib.ListN.{length, take, drop, length-append, take-append-drop}
-use borrow.Author.Tests.{eq-eqb, ne_eqb}
 use Rattle.model.specs.Table.{Words}
 use Rattle.model.specs.Slots.{Slot, slot, node_view, View, height}
 use Rattle.model.specs.Search.{path}
@@ -32,7 +26,8 @@ use Rattle.change_laws.proofs.Cut.{cut-keeps}
 use Rattle.change_laws.proofs.Pairs.{slot_in}
 use Rattle.change_laws.proofs.Attach.{attach-settles}
 use Rattle.step_laws.proofs.SamePaths.{height-same, path-same}
-use Rattle.step_laws.proofs.Repair.{close-changed, close-seen, close-stage, attach-changed, attach-seen, cut-changed, cut-seen, cut-fine, cut-attach, repair-of, repaired-settled}
+use Rattle.step_laws.proofs.Repair.{close-changed, close-seen, close-stage, attach-changed, attach-seen, cut-changed, cut-seen, cut-fine}
+use Rattle.step_laws.proofs.Repair.{cut-attach, repair-of, repaired-settled}
 use Rattle.step_laws.proofs.TreeAt.{tree_at, Sound, Fine, repaired_at, same-word}
 
 -- ---- what node n shows when repair is done
@@ -58,12 +53,18 @@ lacking_in (some (both_in p a)) n = cond (eqb n p) 1 0
 length-with : (k x : ℕ) (ss : List Slot) → length (slot_in k x ss) ≡ length ss + 1
 length-with k x ss =
     let p = place_of k ss in
-    omega (arith, length-append (take p ss) (slot k x ∷ drop p ss), length-append (take p ss) (drop p ss), ap length (take-append-drop p ss))
+    omega (
+      arith,
+      length-append (take p ss) (slot k x ∷ drop p ss),
+      length-append (take p ss) (drop p ss),
+      ap length (take-append-drop p ss),
+    )
 
 length-missing : (v : View) (p a n : ℕ) → length (with_missing v p a n) ≡ length (kept v n) + cond (eqb n p) 1 0
 length-missing v p a n = by-test (eqb n p)
   where
-    by-test : (b : Bool) → length (cond b (slot_in (v.node (v.node a).sibling).fence (v.node a).sibling (kept v n)) (kept v n)) ≡ length (kept v n) + cond b 1 0
+    by-test : (b : Bool) → length (cond b (slot_in (v.node (v.node a).sibling).fence (v.node a).sibling (kept v n)) (kept v n))
+        ≡ length (kept v n) + cond b 1 0
     by-test true = length-with (v.node (v.node a).sibling).fence (v.node a).sibling (kept v n)
     by-test false = omega arith
 
@@ -87,10 +88,13 @@ module _ (w : ℕ) where
   same-refl t = record { header = header-refl t; bare = λ n. refl; reached = refl }
 
   same-trans : (a b c : Words) → SameTree a b → SameTree b c → SameTree a c
-  same-trans a b c f g = record { header = header-trans a b c f.header g.header; bare = λ n. g.bare n ∙ f.bare n; reached = g.reached ∙ f.reached }
+  same-trans a b c f g =
+      record { header = header-trans a b c f.header g.header; bare = λ n. g.bare n ∙ f.bare n; reached = g.reached ∙ f.reached }
 
-  changed-tree : (t : Words) (x : ℕ) (ss : List Slot) (h : ℕ) (t' : Words) → Changed t x ss h t' → reached (tree_at w t') ≡ reached (tree_at w t) → SameTree t t'
-  changed-tree t x ss h t' c r = record { header = c.header; bare = stays-all bare (node_view t) (node_view t') x _ c.node refl; reached = r }
+  changed-tree : (t : Words) (x : ℕ) (ss : List Slot) (h : ℕ) (t' : Words) → Changed t x ss h t' → reached (tree_at w t')
+      ≡ reached (tree_at w t) → SameTree t t'
+  changed-tree t x ss h t' c r =
+      record { header = c.header; bare = stays-all bare (node_view t) (node_view t') x _ c.node refl; reached = r }
 
   -- every reached node of t shows ss n in t'
   abbrev ShowsLater : Words → Words → (ℕ → List Slot) → Type 0
@@ -102,8 +106,10 @@ module _ (w : ℕ) where
   pub record RepairedView (t : Words) : Type 0 where
     pub same : SameTree t (repaired_at w t)
     -- what a reached node shows, and how many slots that are
-    pub shown : (n : ℕ) → Memᴰ n (reached (tree_at w t)) → (node_view (repaired_at w t) n).shown ≡ slots_later (tree_at w t) (leftover (tree_at w t)) n
-    pub count : (n : ℕ) → Memᴰ n (reached (tree_at w t)) → length (node_view (repaired_at w t) n).shown ≡ length (kept (tree_at w t) n) + lacking_in (leftover (tree_at w t)) n
+    pub shown : (n : ℕ) → Memᴰ n (reached (tree_at w t)) → (node_view (repaired_at w t) n).shown
+        ≡ slots_later (tree_at w t) (leftover (tree_at w t)) n
+    pub count : (n : ℕ) → Memᴰ n (reached (tree_at w t)) → length (node_view (repaired_at w t) n).shown
+        ≡ length (kept (tree_at w t) n) + lacking_in (leftover (tree_at w t)) n
     -- every search stands on the same nodes
     pub height : height (tree_at w (repaired_at w t)) ≡ height (tree_at w t)
     pub path : (k : ℕ) → path (tree_at w (repaired_at w t)) k ≡ path (tree_at w t) k
@@ -115,27 +121,33 @@ module _ (w : ℕ) where
 
 module _ (w : ℕ) (ns : List ℕ) where
   -- close
-  module _ (t : Words) (x : ℕ) (y y' : Leftover) (f : Fine w ns t y) (o : HiddenOnly (tree_at w t) x) (k : Keeps (tree_at w t) (with_hidden (tree_at w t) x 0) y') where
+  module _ (t : Words) (x : ℕ) (y y' : Leftover) (f : Fine w ns t y) (o : HiddenOnly (tree_at w t) x)
+      (k : Keeps (tree_at w t) (with_hidden (tree_at w t) x 0) y') where
     close-tree : SameTree w t (apply (close_at t x) t)
-    close-tree = changed-tree w t x _ 0 _ (close-changed w ns t x y f o.member o.here) (ap reached (close-seen w ns t x y f o.member o.here) ∙ k.reached)
+    close-tree = changed-tree w t x _ 0 _ (close-changed w ns t x y f o.member o.here)
+        (ap reached (close-seen w ns t x y f o.member o.here) ∙ k.reached)
 
     close-shows : NoneTrailing (tree_at w t) → ShowsLater w t (apply (close_at t x) t) (kept (tree_at w t))
     close-shows e n h =
         let c = close-changed w ns t x y f o.member o.here in
-        at-or-off (λ (n : ℕ). (node_view (apply (close_at t x) t) n).shown ≡ (node_view t n).shown) x (shown-eq c.node.here) (λ m z. shown-eq (c.node.else m z)) n ∙ keeps-all w t e n h
+        at-or-off (λ (n : ℕ). (node_view (apply (close_at t x) t) n).shown ≡ (node_view t n).shown) x (shown-eq c.node.here)
+        (λ m z. shown-eq (c.node.else m z)) n ∙ keeps-all w t e n h
 
   -- cut
   module _ (t : Words) (p a : ℕ) (f : Fine w ns t (missing_in p a true)) where
     cut-tree : SameTree w t (apply (cut_off t a) t)
-    cut-tree = changed-tree w t a _ 0 _ (cut-changed w ns t p a f) (ap reached (cut-seen w ns t p a f) ∙ (cut-keeps (tree_at w t) p a f.left).reached)
+    cut-tree = changed-tree w t a _ 0 _ (cut-changed w ns t p a f)
+        (ap reached (cut-seen w ns t p a f) ∙ (cut-keeps (tree_at w t) p a f.left).reached)
 
     cut-shows : ShowsLater w t (apply (cut_off t a) t) (kept (tree_at w t))
     cut-shows = at-or-off (λ (n : ℕ). Memᴰ n (reached (tree_at w t)) → (node_view (apply (cut_off t a) t) n).shown ≡ kept (tree_at w t) n) a
         (λ h. shown-eq (cut-changed w ns t p a f).node.here)
-        (λ n z h. shown-eq ((cut-changed w ns t p a f).node.else n z) ∙ sym (each-mem (λ (n : ℕ). n ≢ a → kept (tree_at w t) n ≡ (node_view t n).shown) f.left.left.1.others h z))
+        (λ n z h. shown-eq ((cut-changed w ns t p a f).node.else n z)
+        ∙ sym (each-mem (λ (n : ℕ). n ≢ a → kept (tree_at w t) n ≡ (node_view t n).shown) f.left.left.1.others h z))
 
   -- attach, on a table t₁ that has the tree of t and shows its kept slots
-  module _ (t t₁ : Words) (p a : ℕ) (f : Fine w ns t₁ (missing_in p a false)) (s : SameTree w t t₁) (k : ShowsLater w t t₁ (kept (tree_at w t))) where
+  module _ (t t₁ : Words) (p a : ℕ) (f : Fine w ns t₁ (missing_in p a false)) (s : SameTree w t t₁)
+      (k : ShowsLater w t t₁ (kept (tree_at w t))) where
     abbrev t₂ : Words
     t₂ = apply (attach t₁ p a) t₁
 
@@ -143,7 +155,8 @@ module _ (w : ℕ) (ns : List ℕ) where
     c = attach-changed w ns t₁ p a f
 
     attach-tree : SameTree w t t₂
-    attach-tree = same-trans w t t₁ t₂ s (changed-tree w t₁ p _ 0 t₂ c (ap reached (attach-seen w ns t₁ p a f) ∙ (attach-settles (tree_at w t₁) p a f.left).reached))
+    attach-tree = same-trans w t t₁ t₂ s
+        (changed-tree w t₁ p _ 0 t₂ c (ap reached (attach-seen w ns t₁ p a f) ∙ (attach-settles (tree_at w t₁) p a f.left).reached))
 
     same-sibling : (node_view t₁ a).sibling ≡ (node_view t a).sibling
     same-sibling = sibling-eq (s.bare a)
@@ -160,7 +173,8 @@ module _ (w : ℕ) (ns : List ℕ) where
         ∙ rw (eq-eqb p p refl)
 
     attach-shows : ShowsLater w t t₂ (with_missing (tree_at w t) p a)
-    attach-shows = at-or-off (λ (n : ℕ). Memᴰ n (reached (tree_at w t)) → (node_view t₂ n).shown ≡ with_missing (tree_at w t) p a n) p at-parent (λ n z h. shown-eq (c.node.else n z) ∙ k n h ∙ rw (ne_eqb n p z))
+    attach-shows = at-or-off (λ (n : ℕ). Memᴰ n (reached (tree_at w t)) → (node_view t₂ n).shown ≡ with_missing (tree_at w t) p a n) p
+        at-parent (λ n z h. shown-eq (c.node.else n z) ∙ k n h ∙ rw (ne_eqb n p z))
 
   mends : (t : Words) (y : Leftover) → Fine w ns t y → Mends w t y (apply (repair_of t (some y)) t)
   unfolding repair_of
@@ -204,6 +218,7 @@ module _ (w : ℕ) (ns : List ℕ) where
     orderly-now : Orderly (tree_at w t)
     orderly-now = s.1.left.orderly
 
+    -- repair of a sound tree keeps its nodes but for slots; each then shows those kept and the one it lacked
     pub repaired-view : RepairedView w t
     repaired-view =
         let v = tree_at w t in

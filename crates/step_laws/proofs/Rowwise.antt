@@ -1,11 +1,6 @@
 -- What two views have in common on one level: its nodes, their fences and siblings; and which node a search comes to there.
-use mathlib.Core.Path.{◌≡◌, refl, ap, sym, ◌∙◌}
-use mathlib.Core.Bool.{Bool, true, false, ◌||◌}
-use mathlib.Core.Logic.{◌≢◌}
+use Rattle.std.proofs.Common.{◌≡◌, ℕ, suc, ◌≤◌, Bool, true, false, ◌||◌, eqb, ltb, ◌≢◌, sym, refl, ap, ◌∙◌, arith}
 use mathlib.Core.List.{Memᴰ}
-use Prim.Native.Nat.{ℕ, suc, ◌≤◌}
-use native.Mathlib.Omega.{arith}
-use lib.Dec.{eqb, ltb}
 use borrow.Author.Tests.{eqb-false}
 use Rattle.model.specs.Table.{in_range}
 use Rattle.model.specs.Slots.{View, height}
@@ -48,12 +43,16 @@ pub record Comes (v : View) (k l n : ℕ) : Type 0 where
 
 -- ---- Same is an equivalence
 
+-- a level is the same in a view as in itself
 pub same-refl : (l : ℕ) (v : View) → Same l v v
 same-refl l v = record { there = λ n r. r; back = λ n r. r; fence = λ n r. refl; sibling = λ n r. refl }
 
+-- if a level is the same in v and w, it is in w and v
 pub same-sym : (l : ℕ) (v w : View) → Same l v w → Same l w v
-same-sym l v w s = record { there = s.back; back = s.there; fence = λ n r. sym (s.fence n (s.back n r)); sibling = λ n r. sym (s.sibling n (s.back n r)) }
+same-sym l v w s = record
+    { there = s.back; back = s.there; fence = λ n r. sym (s.fence n (s.back n r)); sibling = λ n r. sym (s.sibling n (s.back n r)) }
 
+-- if a level is the same in u and v, and in v and w, it is in u and w
 pub same-trans : (l : ℕ) (u v w : View) → Same l u v → Same l v w → Same l u w
 same-trans l u v w a b = record {
   there = λ n r. b.there n (a.there n r);
@@ -62,15 +61,18 @@ same-trans l u v w a b = record {
   sibling = λ n r. b.sibling n (a.there n r) ∙ a.sibling n r;
 }
 
+-- a level that is the same keeps its nodes and their fences
 pub same-lasts : (l : ℕ) (v w : View) → Same l v w → Lasts l v w
 same-lasts l v w s = record { level = λ n r. (s.there n r).1; fence = s.fence }
 
 -- ---- one view
 
 module _ (v : View) (o : Orderly v) where
+  -- a node's sibling, if it has one, is on its level
   pub sibling-row : (l n : ℕ) → OnRow v l n → (v.node n).sibling ≢ 0 → OnRow v l (v.node n).sibling
   sibling-row l n r z = (sibling-reached v n o r.0 z, (sib-facts v n (each-mem (Good v) o.good r.0) z).level ∙ r.1)
 
+  -- a node of a level has a number from 1 to N
   pub row-range : (l n : ℕ) → OnRow v l n → in_range v.nodes n ≡ true
   row-range l n r = (each-mem (Bounded v (height v)) (reached-bounds v o) r.0).0
 
@@ -82,6 +84,7 @@ module _ (v : View) (o : Orderly v) where
       let h : d ≤ height v = omega (arith, l, r.level) in
       (h, cover-only v k d n (row_at v d) (level-at v d o h).row (rw l at r.row) c.covers.fence c.covers.inside)
 
+  -- a search that stands on node n of level l finds its node if it comes to n
   pub stands-comes : (k l n : ℕ) → Stands v k l n → Comes v k l n
   stands-comes k l n c = record { row = (c.reached, c.covers.at.level); stands = rw (stays v k n c.covers.inside) c }
 
@@ -97,8 +100,11 @@ module _ (v : View) (o : Orderly v) where
       go : (p q : ℕ) → p ≡ m → Stands v k l q → Step v k l p q → Comes v k l (down v m k) × (Straight l v → Stands v k l (down v m k))
       go p q e b s =
           let x = rw e at s in
-          let t : Memᴰ (down v m k) (children v m) = rw (children-inner v l m c.covers.at.level) (fill-mem v (next_child v m) (down-named v k m c.covers.inside)) in
-          (record { row = (child-reached v m (down v m k) o c.reached t, x.at.level); stands = rw x.moves b }, λ f. rw (x.straight (f m (c.reached, c.covers.at.level))) b)
+          let t : Memᴰ (down v m k) (children v m) =
+          rw (children-inner v l m c.covers.at.level) (fill-mem v (next_child v m) (down-named v k m c.covers.inside)) in (
+            record { row = (child-reached v m (down v m k) o c.reached t, x.at.level); stands = rw x.moves b },
+            λ f. rw (x.straight (f m (c.reached, c.covers.at.level))) b,
+          )
 
 -- ---- two views
 
@@ -113,8 +119,10 @@ module _ (v w : View) (ov : Orderly v) (ow : Orderly w) (l : ℕ) where
 
   module _ (s : Same l v w) where
     within-same : (n k : ℕ) → OnRow v l n → within w n k ≡ within v n k
-    within-same n k r = ap (λ (x : ℕ). below w x k) (s.sibling n r) ∙ below-same (v.node n).sibling k (λ z. s.fence (v.node n).sibling (sibling-row v ov l n r z))
+    within-same n k r = ap (λ (x : ℕ). below w x k) (s.sibling n r)
+        ∙ below-same (v.node n).sibling k (λ z. s.fence (v.node n).sibling (sibling-row v ov l n r z))
 
+    -- a search stands on the same nodes of a level that is the same in both views
     pub same-stands : (k n : ℕ) → Stands v k l n → Stands w k l n
     same-stands k n c =
         let r : OnRow v l n = (c.reached, c.covers.at.level) in
@@ -129,13 +137,16 @@ module _ (v w : View) (ov : Orderly v) (ow : Orderly w) (l : ℕ) where
         go true e = rw (within-same n k r, e, moved)
         go false e = rw (within-same n k r, e, moved) (s.sibling n r)
 
+    -- a search can come to the same nodes of a level that is the same in both views
     pub same-comes : (k n : ℕ) → Comes v k l n → Comes w k l n
     same-comes k n c = record { row = s.there n c.row; stands = rw (moved-same n k c.row) (same-stands k (moved v n k) c.stands) }
 
 -- ---- from what is known of whole views
 
 -- the same nodes are reached, with the same levels, fences and siblings
-pub same-views : (v w : View) → reached w ≡ reached v → ((n : ℕ) → Memᴰ n (reached v) → ((w.node n).level ≡ (v.node n).level) × ((w.node n).fence ≡ (v.node n).fence) × ((w.node n).sibling ≡ (v.node n).sibling)) → (l : ℕ) → Same l v w
+pub same-views : (v w : View) → reached w ≡ reached v
+    → ((n : ℕ) → Memᴰ n (reached v) → ((w.node n).level ≡ (v.node n).level) × ((w.node n).fence ≡ (v.node n).fence)
+    × ((w.node n).sibling ≡ (v.node n).sibling)) → (l : ℕ) → Same l v w
 same-views v w e f l = record {
   there = λ n r. (rw e r.0, (f n r.0).0 ∙ r.1);
   back = λ n r. let m = rw e at r.0 in (m, sym (f n m).0 ∙ r.1);
@@ -148,4 +159,6 @@ pub none-straight : (v : View) → NoneMissing v → (l : ℕ) → Straight l v
 none-straight v h l m r = each-mem (λ (n : ℕ). (v.node n).level ≢ 0 → children v n ≡ named v n) h r.0 (λ z. omega (arith, r.1))
 
 pub only-straight : (v : View) (p a : ℕ) → MissingOnly v p a → (l : ℕ) → (v.node p).level ≢ suc l → Straight l v
-only-straight v p a h l z m r = each-mem (λ (n : ℕ). n ≢ p → (v.node n).level ≢ 0 → children v n ≡ named v n) h.others r.0 (λ e. z (ap (level_of v) (sym e) ∙ r.1)) (λ y. omega (arith, r.1))
+only-straight v p a h l z m r =
+    each-mem (λ (n : ℕ). n ≢ p → (v.node n).level ≢ 0 → children v n ≡ named v n) h.others r.0 (λ e. z (ap (level_of v) (sym e) ∙ r.1))
+    (λ y. omega (arith, r.1))

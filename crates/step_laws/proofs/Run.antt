@@ -1,11 +1,8 @@
 -- The unbroken run of full nodes from the leaf upward: which nodes of the path are full, and the first one above that has room.
-use mathlib.Core.Path.{◌≡◌, refl, sym, ◌∙◌}
-use mathlib.Core.Bool.{Bool, true, false, ◌&&◌, false≢true}
-use mathlib.Core.List.{List, [], ◌∷◌}
-use Prim.Native.Nat.{ℕ, zero, suc, ◌+◌, ◌-◌, ◌≤◌, ◌<◌}
-use native.Mathlib.Omega.{arith}
-use lib.ListN.{length, get_or}
-use borrow.Author.Tests.{eqb-true, eqb-false}
+use Rattle.std.proofs.Common.{◌≡◌, ℕ, zero, suc, ◌+◌, ◌-◌, ◌<◌, ◌≤◌, Bool, true, false, ◌&&◌, List, [], ◌∷◌, length, get_or, sym, refl, ◌∙◌}
+use Rattle.std.proofs.Common.{arith, eqb-true}
+use mathlib.Core.Bool.{false≢true}
+use borrow.Author.Tests.{eqb-false}
 use Rattle.model.specs.Table.{Words}
 use Rattle.model.specs.Slots.{View, node_view, height, full}
 use Rattle.model.specs.Search.{path}
@@ -51,7 +48,8 @@ run-ends v (n ∷ ns) = go (all (is_full v) (n ∷ ns)) refl (run-ends v ns)
         fulls (suc i) h g = ih.full i (omega arith) (omega arith)
 
         stops : (i : ℕ) → suc i + run_in v ns ≡ length (n ∷ ns) → is_full v (get_or (n ∷ ns) i 0) ≡ false
-        stops zero e = first-not (is_full v n) (all (is_full v) ns) (unfold all in c) ((all-each (is_full v) ns).1 (each-index (λ (m : ℕ). is_full v m ≡ true) ns 0 (λ i h. ih.full i h (omega arith))))
+        stops zero e = first-not (is_full v n) (all (is_full v) ns) (unfold all in c)
+            ((all-each (is_full v) ns).1 (each-index (λ (m : ℕ). is_full v m ≡ true) ns 0 (λ i h. ih.full i h (omega arith))))
         stops (suc i) e = ih.stop i (omega arith)
 
 module _ (w : ℕ) (ns : List ℕ) where
@@ -61,19 +59,25 @@ module _ (w : ℕ) (ns : List ℕ) where
     ends : Ends (tree_at w t) (path (tree_at w t) k) (run_at w t k)
     ends = run-ends (tree_at w t) (path (tree_at w t) k)
 
+    -- the run has at most one node for each level
     pub run-short : run_at w t k ≤ suc (height (tree_at w t))
     run-short = omega (arith, ends.short, path-length (tree_at w t) k)
 
+    -- each node on the path below the run's end shows 11 slots
     pub run-full : (l : ℕ) → l < run_at w t k → length (node_view t (standing_at w t l k)).shown ≡ 11
     unfolding standing_in full
-    run-full l h = eqb-true _ 11 (ends.full (height (tree_at w t) - l) (omega (arith, path-length (tree_at w t) k)) (omega (arith, path-length (tree_at w t) k, run-short)))
+    run-full l h = eqb-true _ 11
+        (ends.full (height (tree_at w t) - l) (omega (arith, path-length (tree_at w t) k))
+        (omega (arith, path-length (tree_at w t) k, run-short)))
 
     -- where the run does not include the root, the node above it has room
     pub run-above : run_at w t k ≤ height (tree_at w t) → length (node_view t (standing_at w t (run_at w t k) k)).shown ≤ 10
     unfolding standing_in full
     run-above h =
         let n = run_at w t k in
-        let z = eqb-false (length (node_view t (standing_at w t n k)).shown) 11 (ends.stop (height (tree_at w t) - n) (omega (arith, path-length (tree_at w t) k))) in
+        let z = eqb-false (length (node_view t (standing_at w t n k)).shown) 11
+        (ends.stop (height (tree_at w t) - n) (omega (arith, path-length (tree_at w t) k))) in
         let f = s in
-        let m = shown-few t (standing_at w t n k) (reached-usable w t (standing_at w t n k) f.header f.left.orderly (standing-stands w ns t s k n h).reached).clear in
+        let m = shown-few t (standing_at w t n k)
+        (reached-usable w t (standing_at w t n k) f.header f.left.orderly (standing-stands w ns t s k n h).reached).clear in
         omega (arith, z, m)

@@ -1,7 +1,5 @@
 -- A change of one node's slots: what each level keeps.
-use mathlib.Core.Path.{◌≡◌, refl}
-use mathlib.Core.List.{List}
-use Prim.Native.Nat.{ℕ, ◌<◌}
+use Rattle.std.proofs.Common.{◌≡◌, ℕ, ◌<◌, List, refl}
 use Rattle.model.specs.Table.{Words}
 use Rattle.model.specs.Slots.{Slot, View, node_view}
 use Rattle.model.specs.Search.{below}
@@ -43,21 +41,29 @@ module _ (w : ℕ) where
   module _ (low : w < 8) (t : Words) (x l : ℕ) where
     -- the same slots are shown
     pub hidden-still : (h : ℕ) (t' : Words) → Changed t x (node_view t x).shown h t' → Same l (tree_at w t) (tree_at w t')
-    hidden-still h t' c = same-is l (tree_at w t) (tree_at w t') _ (hidden-view w low t x (node_view t x).shown h t' c refl) (hidden-same (tree_at w t) x h l)
+    hidden-still h t' c =
+        same-is l (tree_at w t) (tree_at w t') _ (hidden-view w low t x (node_view t x).shown h t' c refl) (hidden-same (tree_at w t) x h l)
 
     pub hidden-keeps : (h : ℕ) (t' : Words) → Changed t x (node_view t x).shown h t' → Straight l (tree_at w t) → Straight l (tree_at w t')
-    hidden-keeps h t' c s = straight-is l (tree_at w t') _ (hidden-view w low t x (node_view t x).shown h t' c refl) (hidden-straight (tree_at w t) x h l s)
+    hidden-keeps h t' c s =
+        straight-is l (tree_at w t') _ (hidden-view w low t x (node_view t x).shown h t' c refl) (hidden-straight (tree_at w t) x h l s)
 
     pub hidden-quiet : Straight l (tree_at w t) → (h : ℕ) (t' : Words) → Changed t x (node_view t x).shown h t' → QuietAt (tree_at w) l t t'
     hidden-quiet s h t' c = record { same = hidden-still h t' c; straight = hidden-keeps h t' c s }
 
     -- other slots are shown, by which the same nodes are reached
-    pub slots-still : (ss : List Slot) (h : ℕ) (t' : Words) → Changed t x ss h t' → reached (with_shown (tree_at w t) x ss) ≡ reached (tree_at w t) → Same l (tree_at w t) (tree_at w t')
+    pub slots-still : (ss : List Slot) (h : ℕ) (t' : Words) → Changed t x ss h t' → reached (with_shown (tree_at w t) x ss)
+        ≡ reached (tree_at w t) → Same l (tree_at w t) (tree_at w t')
     slots-still ss h t' c e =
         let u = with_shown (tree_at w t) x ss in
-        same-is l (tree_at w t) (tree_at w t') (with_hidden u x h) (changed-view w low t x ss h t' c) (same-trans l (tree_at w t) u (with_hidden u x h) (shown-same (tree_at w t) x ss e l) (hidden-same u x h l))
+        same-is l (tree_at w t) (tree_at w t') (with_hidden u x h) (changed-view w low t x ss h t' c)
+        (same-trans l (tree_at w t) u (with_hidden u x h) (shown-same (tree_at w t) x ss e l) (hidden-same u x h l))
 
-    pub slots-quiet : (ss : List Slot) (h : ℕ) (t' : Words) → Changed t x ss h t' → reached (with_shown (tree_at w t) x ss) ≡ reached (tree_at w t) → Straight l (with_shown (tree_at w t) x ss) → QuietAt (tree_at w) l t t'
+    pub slots-quiet : (ss : List Slot) (h : ℕ) (t' : Words) → Changed t x ss h t' → reached (with_shown (tree_at w t) x ss)
+        ≡ reached (tree_at w t) → Straight l (with_shown (tree_at w t) x ss) → QuietAt (tree_at w) l t t'
     slots-quiet ss h t' c e s =
         let u = with_shown (tree_at w t) x ss in
-        record { same = slots-still ss h t' c e; straight = straight-is l (tree_at w t') (with_hidden u x h) (changed-view w low t x ss h t' c) (hidden-straight u x h l s) }
+        record {
+          same = slots-still ss h t' c e;
+          straight = straight-is l (tree_at w t') (with_hidden u x h) (changed-view w low t x ss h t' c) (hidden-straight u x h l s);
+        }

@@ -1,14 +1,9 @@
 -- A full node split: every store leaves a sound table with the same map, and the last a settled one.
-use mathlib.Core.Path.{◌≡◌, refl, ap, sym, ◌∙◌}
-use mathlib.Core.Bool.{Bool, true, false, cond}
-use mathlib.Core.Logic.{◌≢◌}
-use mathlib.Core.List.{List, [], ◌∷◌, ◌++◌, Memᴰ}
-use Prim.Native.Nat.{ℕ, zero, suc, ◌≤◌, ◌<◌}
-use native.Mathlib.Omega.{arith}
-use lib.Dec.{eqb, ltb}
-use lib.ListN.{length, take, drop, set, length-drop}
-use lib.Seq.{split_at, drop-cons, length-take-le}
-use borrow.Author.Tests.{eq-eqb, ne_eqb, le-leb, lt-ltb, ltb-true, ltb-false}
+use Rattle.std.proofs.Common.{◌≡◌, ℕ, zero, suc, ◌<◌, ◌≤◌, Bool, true, false, cond, eqb, ltb, ◌≢◌, List, [], ◌∷◌, ◌++◌, length, take, drop}
+use Rattle.std.proofs.Common.{set, sym, refl, ap, ◌∙◌, arith, length-drop, length-take-le, drop-cons, ltb-false, ltb-true, lt-ltb, eq-eqb}
+use Rattle.std.proofs.Common.{ne_eqb, le-leb}
+use mathlib.Core.List.{Memᴰ}
+use lib.Seq.{split_at}
 use Rattle.model.specs.Table.{MARK, Words, node_start, has_node}
 use Rattle.model.specs.Slots.{Slot, slot, NodeView, node_view, View, height}
 use Rattle.model.specs.Search.{below}
@@ -46,7 +41,8 @@ use Rattle.step_laws.specs.Parts.{FullNode}
 use Rattle.step_laws.proofs.Phase.{Phase}
 use Rattle.step_laws.proofs.Stages.{Stage, stage-until, stage-whole, stage-phase}
 use Rattle.step_laws.proofs.Views.{view-fine, reached-usable}
-use Rattle.step_laws.proofs.Repair.{sibling-some, a-reached, cut-fine, cut-seen, cut-stage, cut-attach, cut-calm, attach-seen, attach-phase, attach-calm}
+use Rattle.step_laws.proofs.Repair.{sibling-some, a-reached, cut-fine, cut-seen, cut-stage, cut-attach, cut-calm, attach-seen, attach-phase}
+use Rattle.step_laws.proofs.Repair.{attach-calm}
 use Rattle.step_laws.proofs.Fresh.{Free, free-other, free-sibling}
 use Rattle.step_laws.proofs.WholeNode.{Stays, whole-stage, whole-stays}
 use Rattle.step_laws.proofs.Rowwise.{same-refl, none-straight, only-straight}
@@ -64,16 +60,19 @@ module _ (w : ℕ) (ns : List ℕ) where
   -- ---- the node that is split
 
   -- the pointers of a leaf are not MARK
-  leaf-marks : (t : Words) (a : ℕ) → Fine w ns t nothing → Memᴰ a (reached (tree_at w t)) → (node_view t a).level ≡ 0 → Each (λ (s : Slot). s.pointer ≢ MARK) (node_view t a).shown
+  leaf-marks : (t : Words) (a : ℕ) → Fine w ns t nothing → Memᴰ a (reached (tree_at w t)) → (node_view t a).level ≡ 0
+      → Each (λ (s : Slot). s.pointer ≢ MARK) (node_view t a).shown
   leaf-marks t a s m e =
       let l = s.left in
       let d = leaf-pointers (tree_at w t) a l.orderly ((mem-leaves (tree_at w t) a l.orderly).1 (m, e)) in
       let ps = pointers (kept (tree_at w t) a) in
-      let k = (each-map (λ (n : ℕ). n ≢ MARK) (λ (s : Slot). s.pointer) (kept (tree_at w t) a)).0 ((elem-false MARK ps).0 ((distinct-cons MARK ps).0 d).0) in
+      let k = (each-map (λ (n : ℕ). n ≢ MARK) (λ (s : Slot). s.pointer) (kept (tree_at w t) a)).0
+      ((elem-false MARK ps).0 ((distinct-cons MARK ps).0 d).0) in
       rw (each-mem (NothingUnfinished (tree_at w t)) (all-finished (tree_at w t) l) m).keeps at k
 
   -- what B takes of A, which is full
-  module _ (t : Words) (a : ℕ) (s : Fine w ns t nothing) (m : Memᴰ a (reached (tree_at w t))) (full : length (node_view t a).shown ≡ 11) where
+  module _ (t : Words) (a : ℕ) (s : Fine w ns t nothing) (m : Memᴰ a (reached (tree_at w t)))
+      (full : length (node_view t a).shown ≡ 11) where
     abbrev ss : List Slot
     ss = (node_view t a).shown
 
@@ -95,11 +94,14 @@ module _ (w : ℕ) (ns : List ℕ) where
     abbrev slots : ℕ → List Slot
     slots d = upper_slots d (middle t a) (drop 6 ss)
 
-    upper-words : split_words t a ≡ node_words (left (node_view t a).level) (node_view t a).sibling (node_view t a).level (middle t a).key (slots (node_view t a).level)
+    upper-words : split_words t a
+        ≡ node_words (left (node_view t a).level) (node_view t a).sibling (node_view t a).level (middle t a).key
+        (slots (node_view t a).level)
     unfolding split_words
     upper-words = go (node_view t a).level refl
       where
-        go : (d : ℕ) → (node_view t a).level ≡ d → split_words t a ≡ node_words (left d) (node_view t a).sibling (node_view t a).level (middle t a).key (slots d)
+        go : (d : ℕ) → (node_view t a).level ≡ d → split_words t a
+            ≡ node_words (left d) (node_view t a).sibling (node_view t a).level (middle t a).key (slots d)
         go zero e = rw (eq-eqb (node_view t a).level 0 e, split_words, upper-shape)
         go (suc d) e = rw (ne_eqb (node_view t a).level 0 (λ z. omega arith), split_words)
 
@@ -107,7 +109,11 @@ module _ (w : ℕ) (ns : List ℕ) where
     upper-all = go (node_view t a).level refl
       where
         go : (d : ℕ) → (node_view t a).level ≡ d → AllShown (left d) (slots d)
-        go zero e = (upper-shown.0, (Each-split (λ (s : Slot). s.pointer ≢ MARK) (take 5 ss) (middle t a ∷ drop 6 ss) (rw shape at (leaf-marks t a s m e))).1.0, upper-shown.2)
+        go zero e = (
+          upper-shown.0,
+          (Each-split (λ (s : Slot). s.pointer ≢ MARK) (take 5 ss) (middle t a ∷ drop 6 ss) (rw shape at (leaf-marks t a s m e))).1.0,
+          upper-shown.2,
+        )
         go (suc d) e = upper-shown.2
 
     upper-few : length (slots (node_view t a).level) ≤ 6
@@ -165,7 +171,8 @@ module _ (w : ℕ) (ns : List ℕ) where
     few = upper-few t a s stands-a.reached h.full
 
     stays : Stays w ns t b (upper_part (v.node a) mid high) t₁
-    stays = rw words (whole-stays w ns t b (upper_left d mid) (v.node a).sibling d mid.key (upper_slots d mid high) s f (upper-all t a s stands-a.reached h.full) (omega (arith, few)))
+    stays = rw words (whole-stays w ns t b (upper_left d mid) (v.node a).sibling d mid.key (upper_slots d mid high) s f
+        (upper-all t a s stands-a.reached h.full) (omega (arith, few)))
 
     new : node_view t₁ b ≡ upper_part (v.node a) mid high
     new = stays.node.here
@@ -230,19 +237,22 @@ module _ (w : ℕ) (ns : List ℕ) where
     map₂ = ap mapping seen₂ ∙ linked.mapping
 
     link-stage : Stage w ns 2 t₁ (put (suc (node_start a)) b ∷ [])
-    link-stage = stage-until w ns 2 t₁ (put (suc (node_start a)) b ∷ []) (unfold orders orders_after in omega arith) (unfold node_start in omega (arith, (has-node-iff t₁ a).0 has-a), tt)
+    link-stage = stage-until w ns 2 t₁ (put (suc (node_start a)) b ∷ []) (unfold orders orders_after in omega arith)
+        (unfold node_start in omega (arith, (has-node-iff t₁ a).0 has-a), tt)
         (((nothing, stays.fine), refl), (((missing_in p a true), fine₂), map₂))
 
     -- ---- A's pointer 5 := 0
 
     kept-a : kept (tree_at w t₂) a ≡ take 5 (v.node a).shown
-    kept-a = ap (λ (x : View). kept x a) seen₂ ∙ link-kept v₁ a b (take 5 (v.node a).shown) (middle t a) (drop 6 (v.node a).shown) stays.fine.left parts
+    kept-a = ap (λ (x : View). kept x a) seen₂
+        ∙ link-kept v₁ a b (take 5 (v.node a).shown) (middle t a) (drop 6 (v.node a).shown) stays.fine.left parts
 
     cut-there : place_of (node_view t₂ (node_view t₂ a).sibling).fence (node_view t₂ a).shown ≡ 5
     cut-there =
         let o = fine₂.left.orderly in
         let g = fine₂.left.left.2 in
-        cut-place (tree_at w t₂) a (each-mem (Good (tree_at w t₂)) o.good (a-reached (tree_at w t₂) p a o g)) (sibling-some (tree_at w t₂) p a o g) ∙ ap length kept-a ∙ low-length
+        cut-place (tree_at w t₂) a (each-mem (Good (tree_at w t₂)) o.good (a-reached (tree_at w t₂) p a o g))
+        (sibling-some (tree_at w t₂) p a o g) ∙ ap length kept-a ∙ low-length
 
     cut-same : cut_off t₂ a ≡ put (pointer_word a 5) 0 ∷ []
     unfolding cut_off
@@ -261,9 +271,11 @@ module _ (w : ℕ) (ns : List ℕ) where
     attach-same =
         let c = sibling-view t₁ a b has-a in
         let e : (node_view t₂ a).sibling ≡ b = sibling-eq c.here in
-        let q : (node_view t₂ (node_view t₂ a).sibling).fence ≡ (middle t a).key = ap (fence_of (tree_at w t₂)) e ∙ fence-eq (c.else b (λ z. not-a (sym z))) ∙ fence-eq new in
+        let q : (node_view t₂ (node_view t₂ a).sibling).fence ≡ (middle t a).key =
+        ap (fence_of (tree_at w t₂)) e ∙ fence-eq (c.else b (λ z. not-a (sym z))) ∙ fence-eq new in
         let same : node_view t₂ p ≡ node_view t p = c.else p other ∙ stays.node.else p not-p in
-        cut-attach w ns t₂ p a fine₂ ∙ ap (λ (j : ℕ). shift_in_at t₂ p j (node_view t₂ a).sibling) q ∙ ap (shift_in_at t₂ p (middle t a).key) e
+        cut-attach w ns t₂ p a fine₂ ∙ ap (λ (j : ℕ). shift_in_at t₂ p j (node_view t₂ a).sibling) q
+        ∙ ap (shift_in_at t₂ p (middle t a).key) e
         ∙ shift-in-same t t₂ p (middle t a).key b (left-eq same) (shown-eq same)
 
     map₃ : map_at w t₃ ≡ map_at w t
@@ -273,11 +285,13 @@ module _ (w : ℕ) (ns : List ℕ) where
     last-phase = rw (attach-same, map₃) at (attach-phase w ns t₃ p a fine₃)
 
     cut-phase : Phase w ns 29 t₂ (put (pointer_word a 5) 0 ∷ shift_in_at t p (middle t a).key b) (map_at w t)
-    cut-phase = rw cut-same at (stage-phase w ns 2 27 t₂ (cut_off t₂ a) (shift_in_at t p (middle t a).key b) (map_at w t) (cut-stage w ns t₂ p a fine₂) last-phase)
+    cut-phase = rw cut-same at
+        (stage-phase w ns 2 27 t₂ (cut_off t₂ a) (shift_in_at t p (middle t a).key b) (map_at w t) (cut-stage w ns t₂ p a fine₂) last-phase)
 
     link-phase : Phase w ns 31 t₁ (put (suc (node_start a)) b ∷ put (pointer_word a 5) 0 ∷ shift_in_at t p (middle t a).key b) (map_at w t)
     unfolding apply
-    link-phase = stage-phase w ns 2 29 t₁ (put (suc (node_start a)) b ∷ []) (put (pointer_word a 5) 0 ∷ shift_in_at t p (middle t a).key b) (map_at w t) link-stage cut-phase
+    link-phase = stage-phase w ns 2 29 t₁ (put (suc (node_start a)) b ∷ []) (put (pointer_word a 5) 0 ∷ shift_in_at t p (middle t a).key b)
+        (map_at w t) link-stage cut-phase
 
     -- Split: every first part of its stores leaves a sound table with the same map.
     pub split-phase : Phase w ns 67 t (split_into w t l k b) (map_at w t)
@@ -299,7 +313,8 @@ module _ (w : ℕ) (ns : List ℕ) where
     parent₃ = ap (λ (x : View). (x.node p).level) (cut-seen w ns t₂ p a fine₂) ∙ parent₂
 
     words-quiet : (d : ℕ) → Quiet (tree_at w) d t (put_all (node_start b) (split_words t a))
-    words-quiet = whole-quiet w ns t b s f (split_words t a) (ap length words ∙ length-node-words (upper_left d mid) (v.node a).sibling d mid.key (upper_slots d mid high))
+    words-quiet = whole-quiet w ns t b s f (split_words t a)
+        (ap length words ∙ length-node-words (upper_left d mid) (v.node a).sibling d mid.key (upper_slots d mid high))
 
     -- after the link
     abbrev rest : List Store
@@ -309,25 +324,33 @@ module _ (w : ℕ) (ns : List ℕ) where
     rest-is = ap (λ (x : List Store). x ++ attach t₃ p a) cut-same ∙ ap (λ (x : List Store). put (pointer_word a 5) 0 ∷ x) attach-same
 
     rest-still : (e : ℕ) → Still (tree_at w) e t₂ rest
-    rest-still e = rw rest-is at (still-append (tree_at w) e t₂ (cut_off t₂ a) (attach t₃ p a) (calm-still (tree_at w) p e t₂ _ (cut-calm w ns t₂ p a fine₂ e)) (calm-still (tree_at w) p e t₃ _ (attach-calm w ns t₃ p a fine₃ e)))
+    rest-still e = rw rest-is at
+        (still-append (tree_at w) e t₂ (cut_off t₂ a) (attach t₃ p a) (calm-still (tree_at w) p e t₂ _ (cut-calm w ns t₂ p a fine₂ e))
+        (calm-still (tree_at w) p e t₃ _ (attach-calm w ns t₃ p a fine₃ e)))
 
     rest-quiet : (e : ℕ) → e ≢ l → Quiet (tree_at w) e t₂ rest
     rest-quiet e z = rw rest-is at (quiet-append (tree_at w) e t₂ (cut_off t₂ a) (attach t₃ p a)
-        (calm-quiet (tree_at w) p e t₂ _ (cut-calm w ns t₂ p a fine₂ e) (λ q. z (omega (arith, parent₂)))) (calm-quiet (tree_at w) p e t₃ _ (attach-calm w ns t₃ p a fine₃ e) (λ q. z (omega (arith, parent₃)))))
+        (calm-quiet (tree_at w) p e t₂ _ (cut-calm w ns t₂ p a fine₂ e) (λ q. z (omega (arith, parent₂))))
+        (calm-quiet (tree_at w) p e t₃ _ (attach-calm w ns t₃ p a fine₃ e) (λ q. z (omega (arith, parent₃)))))
 
     link-at : (e : ℕ) → e ≢ l → QuietAt (tree_at w) e t₁ t₂
     link-at e z = seen-quiet w e t₁ t₂ (with_sibling v₁ a b) seen₂
-        (link-same v₁ a b (take 5 (v.node a).shown) (middle t a) (drop 6 (v.node a).shown) p stays.fine.left parts parent e (λ q. z (q ∙ level₁)))
+        (link-same v₁ a b (take 5 (v.node a).shown) (middle t a) (drop 6 (v.node a).shown) p stays.fine.left parts parent
+        e (λ q. z (q ∙ level₁)))
         (only-straight (with_sibling v₁ a b) p a linked.left.left.2 e (λ q. z (omega (arith, parent₁))))
 
     link-quiet : (e : ℕ) → e ≢ l → Quiet (tree_at w) e t₁ (put (suc (node_start a)) b ∷ [])
-    link-quiet e z = each-part (QuietAt (tree_at w) e t₁) (put (suc (node_start a)) b ∷ []) t₁ (record { same = same-refl e v₁; straight = none-straight v₁ stays.fine.left.left.2 e }, link-at e z)
+    link-quiet e z = each-part (QuietAt (tree_at w) e t₁) (put (suc (node_start a)) b ∷ []) t₁
+        (record { same = same-refl e v₁; straight = none-straight v₁ stays.fine.left.left.2 e }, link-at e z)
 
+    -- while a node on level l is split, each other level is quiet
     pub split-quiet : (e : ℕ) → e ≢ l → Quiet (tree_at w) e t (split_into w t l k b)
     unfolding split apply
-    split-quiet e z = quiet-append (tree_at w) e t (put_all (node_start b) (split_words t a)) (put (suc (node_start a)) b ∷ rest) (words-quiet e)
+    split-quiet e z = quiet-append (tree_at w) e t (put_all (node_start b) (split_words t a))
+        (put (suc (node_start a)) b ∷ rest) (words-quiet e)
         (quiet-append (tree_at w) e t₁ (put (suc (node_start a)) b ∷ []) rest (link-quiet e z) (rest-quiet e z))
 
+    -- while a node on level l is split, that level is quiet, one store turns it, and then it stays as it is
     pub split-turn : Turn (tree_at w) l t (split_into w t l k b)
     unfolding split
     split-turn = record {
@@ -337,7 +360,8 @@ module _ (w : ℕ) (ns : List ℕ) where
       shape = refl;
       quiet = words-quiet l;
       crosses = seen-crosses l v₁ (tree_at w t₂) (with_sibling v₁ a b) seen₂
-          (rw level₁ at (link-crosses v₁ a b (take 5 (v.node a).shown) (middle t a) (drop 6 (v.node a).shown) p stays.fine.left parts parent));
+          (rw level₁ at (link-crosses v₁ a b (take 5 (v.node a).shown) (middle t a) (drop 6 (v.node a).shown) p
+          stays.fine.left parts parent));
       still = rest-still l;
     }
 
@@ -352,10 +376,12 @@ module _ (w : ℕ) (ns : List ℕ) where
     same-done : done ≡ apply (attach t₃ p a) t₃
     unfolding split apply
     same-done = apply-append (put_all (node_start b) (split_words t a)) _ t
-        ∙ ap (λ (q : List Store). apply (shift_in_at t p (middle t a).key b) (apply q t₂)) (sym cut-same) ∙ ap (λ (q : List Store). apply q t₃) (sym attach-same)
+        ∙ ap (λ (q : List Store). apply (shift_in_at t p (middle t a).key b) (apply q t₂)) (sym cut-same)
+        ∙ ap (λ (q : List Store). apply q t₃) (sym attach-same)
 
     seen₃ : tree_at w t₃ ≡ with_shown (with_sibling v₁ a b) a (take 5 (v.node a).shown)
-    seen₃ = cut-seen w ns t₂ p a fine₂ ∙ ap (with_shown (tree_at w t₂) a) kept-a ∙ ap (λ (x : View). with_shown x a (take 5 (v.node a).shown)) seen₂
+    seen₃ = cut-seen w ns t₂ p a fine₂ ∙ ap (with_shown (tree_at w t₂) a) kept-a
+        ∙ ap (λ (x : View). with_shown x a (take 5 (v.node a).shown)) seen₂
 
     -- with these slots shown in p
     abbrev more : List Slot
@@ -375,22 +401,27 @@ module _ (w : ℕ) (ns : List ℕ) where
 
     reach : reached u ≡ splice a b (reached v)
     reach =
-        ap (λ (x : Words). reached (tree_at w x)) same-done ∙ ap reached (attach-seen w ns t₃ p a fine₃) ∙ (attach-settles (tree_at w t₃) p a fine₃.left).reached
-        ∙ ap reached (cut-seen w ns t₂ p a fine₂) ∙ (cut-keeps (tree_at w t₂) p a fine₂.left).reached ∙ ap reached seen₂ ∙ linked.reached ∙ ap (splice a b) stays.reached
+        ap (λ (x : Words). reached (tree_at w x)) same-done ∙ ap reached (attach-seen w ns t₃ p a fine₃)
+        ∙ (attach-settles (tree_at w t₃) p a fine₃.left).reached
+        ∙ ap reached (cut-seen w ns t₂ p a fine₂) ∙ (cut-keeps (tree_at w t₂) p a fine₂.left).reached ∙ ap reached seen₂ ∙ linked.reached
+        ∙ ap (splice a b) stays.reached
 
     -- B is reached besides, and of the others the same ones
     pub split-others : (n : ℕ) → n ≢ b → elem n (reached (tree_at w (apply (split_into w t l k b) t))) ≡ elem n (reached (tree_at w t))
     split-others n z = ap (elem n) reach ∙ splice-elem a b n (reached v) z
 
+    -- a split leaves the tree settled
     pub split-settled : Fine w ns (apply (split_into w t l k b) t) nothing
     split-settled = split-phase.settles
 
     orderly-u : Orderly u
     orderly-u = split-settled.left.orderly
 
+    -- a split does not change the height
     pub split-height : height (tree_at w (apply (split_into w t l k b) t)) ≡ height (tree_at w t)
     split-height = ap height seen ∙ stays-height w ns t b s f _ t₁ stays
 
+    -- a split makes one more node reached
     pub split-takes : length (reached (tree_at w (apply (split_into w t l k b) t))) ≡ suc (length (reached (tree_at w t)))
     split-takes = ap length reach ∙ length-splice a b (reached v) (once a (reached v) s.left.orderly.once stands-a.reached)
 
@@ -398,28 +429,36 @@ module _ (w : ℕ) (ns : List ℕ) where
     others-stand : (d n : ℕ) → (n ≡ a → ⊥) → Stands v k d n → Stands u k d n
     others-stand d n z c =
         let y = free-other w ns t b s f n c.reached in
-        stands-same v u k d n orderly-u (rw reach (mem-splice a b n (reached v) c.reached)) (level-same n y) (fence-same n y) (sibling-same n z y) (fence-same (v.node n).sibling (free-sibling w ns t b s f n c.reached)) c
+        stands-same v u k d n orderly-u (rw reach (mem-splice a b n (reached v) c.reached)) (level-same n y) (fence-same n y)
+        (sibling-same n z y) (fence-same (v.node n).sibling (free-sibling w ns t b s f n c.reached)) c
 
-    pub split-standing : (d : ℕ) → d ≤ height (tree_at w t) → d ≢ l → standing_at w (apply (split_into w t l k b) t) d k ≡ standing_at w t d k
+    -- after a split on level l, a search for k stands on the same nodes of the other levels
+    pub split-standing :
+        (d : ℕ) → d ≤ height (tree_at w t) → d ≢ l → standing_at w (apply (split_into w t l k b) t) d k ≡ standing_at w t d k
     split-standing d g z =
         let c = standing-stands w ns t s k d g in
-        standing-is w ns done split-settled k d (standing_at w t d k) (others-stand d (standing_at w t d k) (λ e. z (sym c.covers.at.level ∙ ap (level_of v) e ∙ stands-a.covers.at.level)) c)
+        standing-is w ns done split-settled k d (standing_at w t d k)
+        (others-stand d (standing_at w t d k) (λ e. z (sym c.covers.at.level ∙ ap (level_of v) e ∙ stands-a.covers.at.level)) c)
 
     -- and below them show what they showed
-    pub split-shown : (d : ℕ) → d < l → (node_view (apply (split_into w t l k b) t) (standing_at w t d k)).shown ≡ (node_view t (standing_at w t d k)).shown
+    pub split-shown : (d : ℕ) → d < l → (node_view (apply (split_into w t l k b) t) (standing_at w t d k)).shown
+        ≡ (node_view t (standing_at w t d k)).shown
     split-shown d g =
         let n = standing_at w t d k in
         let c = standing-stands w ns t s k d (omega (arith, h.high)) in
         let y : n ≡ a → ⊥ = λ e. omega (arith, c.covers.at.level, ap (level_of v) e, stands-a.covers.at.level) in
         let z : n ≡ p → ⊥ = λ e. omega (arith, c.covers.at.level, ap (level_of v) e, stands-p.covers.at.level) in
-        ap (λ (x : View). (x.node n).shown) seen ∙ update-off _ p more n z ∙ update-off (shown_of v₁) a (take 5 (v.node a).shown) n y ∙ shown-eq (stays.node.else n (free-other w ns t b s f n c.reached))
+        ap (λ (x : View). (x.node n).shown) seen ∙ update-off _ p more n z ∙ update-off (shown_of v₁) a (take 5 (v.node a).shown) n y
+        ∙ shown-eq (stays.node.else n (free-other w ns t b s f n c.reached))
 
     -- on level l it is A or B, and both have room
     shown-a : (u.node a).shown ≡ take 5 (v.node a).shown
-    shown-a = ap (λ (x : View). (x.node a).shown) seen ∙ update-off _ p more a (λ e. other (sym e)) ∙ update-at (shown_of v₁) a (take 5 (v.node a).shown)
+    shown-a = ap (λ (x : View). (x.node a).shown) seen ∙ update-off _ p more a (λ e. other (sym e))
+        ∙ update-at (shown_of v₁) a (take 5 (v.node a).shown)
 
     shown-b : (u.node b).shown ≡ upper_slots d mid high
-    shown-b = ap (λ (x : View). (x.node b).shown) seen ∙ update-off _ p more b (λ e. not-p (sym e)) ∙ update-off (shown_of v₁) a (take 5 (v.node a).shown) b (λ e. not-a (sym e)) ∙ shown-eq new
+    shown-b = ap (λ (x : View). (x.node b).shown) seen ∙ update-off _ p more b (λ e. not-p (sym e))
+        ∙ update-off (shown_of v₁) a (take 5 (v.node a).shown) b (λ e. not-a (sym e)) ∙ shown-eq new
 
     fence-b : (u.node b).fence ≡ (middle t a).key
     fence-b = ap (λ (x : View). (x.node b).fence) seen ∙ fence-eq new
@@ -428,17 +467,21 @@ module _ (w : ℕ) (ns : List ℕ) where
     unfolding below
     a-stands g =
         let e : (u.node a).sibling ≡ b = ap (λ (x : View). (x.node a).sibling) seen ∙ update-at (sibling_of v₁) a b in
-        stands u k l a orderly-u (rw reach (mem-splice a b a (reached v) stands-a.reached)) (level-same a not-a ∙ stands-a.covers.at.level) (rw (fence-same a not-a) stands-a.covers.fence)
+        stands u k l a orderly-u (rw reach (mem-splice a b a (reached v) stands-a.reached)) (level-same a not-a ∙ stands-a.covers.at.level)
+        (rw (fence-same a not-a) stands-a.covers.fence)
         (rw e (or-right (eqb b 0) _ (lt-ltb k (u.node b).fence (rw fence-b g))))
 
     b-stands : (middle t a).key ≤ k → Stands u k l b
     unfolding below
     b-stands g =
-        let e : (u.node b).sibling ≡ (v.node a).sibling = ap (λ (x : View). (x.node b).sibling) seen ∙ update-off (sibling_of v₁) a b b (λ q. not-a (sym q)) ∙ sibling-eq new in
+        let e : (u.node b).sibling ≡ (v.node a).sibling =
+        ap (λ (x : View). (x.node b).sibling) seen ∙ update-off (sibling_of v₁) a b b (λ q. not-a (sym q)) ∙ sibling-eq new in
         let o = once a (reached v) s.left.orderly.once stands-a.reached in
-        stands u k l b orderly-u (rw reach (splice-in a b (reached v) o)) (ap (λ (x : View). (x.node b).level) seen ∙ level-eq new ∙ stands-a.covers.at.level) (rw fence-b g)
+        stands u k l b orderly-u (rw reach (splice-in a b (reached v) o))
+        (ap (λ (x : View). (x.node b).level) seen ∙ level-eq new ∙ stands-a.covers.at.level) (rw fence-b g)
         (rw (e, fence-same (v.node a).sibling (free-sibling w ns t b s f a stands-a.reached)) stands-a.covers.inside)
 
+    -- after a split the node that stands for k on that level shows at most 6 slots
     pub split-room : length (node_view (apply (split_into w t l k b) t) (standing_at w (apply (split_into w t l k b) t) l k)).shown ≤ 6
     split-room = go (ltb k (middle t a).key) refl
       where
@@ -451,7 +494,8 @@ module _ (w : ℕ) (ns : List ℕ) where
     split-new = rw reach (splice-in a b (reached v) (once a (reached v) s.left.orderly.once stands-a.reached))
 
     -- A stands for k on level l if k is below B's fence, else B does
-    pub split-half : standing_at w (apply (split_into w t l k b) t) l k ≡ cond (ltb k (middle t (standing_at w t l k)).key) (standing_at w t l k) b
+    pub split-half : standing_at w (apply (split_into w t l k b) t) l k
+        ≡ cond (ltb k (middle t (standing_at w t l k)).key) (standing_at w t l k) b
     split-half = go (ltb k (middle t a).key) refl
       where
         go : (c : Bool) → ltb k (middle t a).key ≡ c → standing_at w done l k ≡ cond (ltb k (middle t a).key) a b

@@ -1,14 +1,8 @@
 -- Phases and stages from what holds before and after each store. A stage keeps the map, but need not end settled.
-use mathlib.Core.Path.{◌≡◌, refl, ◌∙◌}
-use mathlib.Core.Logic.{◌⊎◌, inl, inr, ⊎_map}
-use mathlib.Core.Bool.{Bool, true, false}
-use mathlib.Core.List.{List, ◌++◌}
-use Prim.Native.Nat.{ℕ, zero, suc, ◌+◌, ◌≤◌, ◌<◌}
-use native.Mathlib.Omega.{arith}
-use lib.Dec.{ltb}
-use lib.ListN.{length, take}
-use lib.Seq.{take_all, take-length}
-use borrow.Author.Tests.{ltb-true, ltb-false}
+use Rattle.std.proofs.Common.{◌≡◌, ℕ, zero, suc, ◌+◌, ◌<◌, ◌≤◌, Bool, true, false, ltb, ◌⊎◌, List, ◌++◌, length, take, refl, ◌∙◌, inl, inr}
+use Rattle.std.proofs.Common.{arith, take_all, ltb-false, ltb-true}
+use mathlib.Core.Logic.{⊎_map}
+use lib.Seq.{take-length}
 use Rattle.model.specs.Table.{Words}
 use Rattle.model.specs.Slots.{Slot}
 use Rattle.model.specs.Orders.{Store, apply, orders}
@@ -23,7 +17,8 @@ use Rattle.model.specs.SoundTest.{nothing}
 use Rattle.step_laws.proofs.TreeAt.{Sound, Fine, map_at}
 
 -- what holds after each first part but the whole, and after the whole
-every-part : (P : Words → Type 0) (ss : List Store) (t : Words) → ((j : ℕ) → j < length ss → P (apply (take j ss) t)) → P (apply ss t) → (j : ℕ) → P (apply (take j ss) t)
+every-part : (P : Words → Type 0) (ss : List Store) (t : Words) → ((j : ℕ) → j < length ss → P (apply (take j ss) t)) → P (apply ss t)
+    → (j : ℕ) → P (apply (take j ss) t)
 every-part P ss t f w j = go (ltb j (length ss)) refl
   where
     go : (b : Bool) → ltb j (length ss) ≡ b → P (apply (take j ss) t)
@@ -52,7 +47,9 @@ module _ (w : ℕ) (ns : List ℕ) where
 
     module _ (m : List Slot) where
       -- each first part but the whole is sound with one of the two maps, and the whole settled with m
-      phase-parts : ((j : ℕ) → j < length ss → (Sound w ns (apply (take j ss) t)) × ((map_at w (apply (take j ss) t) ≡ map_at w t) ⊎ (map_at w (apply (take j ss) t) ≡ m))) → SettledWith m (apply ss t) → Phase w ns b t ss m
+      phase-parts : ((j : ℕ) → j < length ss → (Sound w ns (apply (take j ss) t))
+          × ((map_at w (apply (take j ss) t) ≡ map_at w t) ⊎ (map_at w (apply (take j ss) t) ≡ m)))
+          → SettledWith m (apply ss t) → Phase w ns b t ss m
       phase-parts f z =
           let P : Words → Type 0 = λ (u : Words). Sound w ns u × ((map_at w u ≡ map_at w t) ⊎ (map_at w u ≡ m)) in
           let part = every-part P ss t f ((nothing, z.0), inr z.1) in
@@ -69,7 +66,8 @@ module _ (w : ℕ) (ns : List ℕ) where
       phase-first a some =
           let P : Words → Type 0 = SoundWith (map_at w t) in
           let Q : Words → Type 0 = SoundWith m in
-          phase-parts (λ j h. go j h (first-start do_store P Q (SettledWith m) ss t a) (between-first P Q (SettledWith m) ss t a)) (after-first P Q (SettledWith m) ss t a some)
+          phase-parts (λ j h. go j h (first-start do_store P Q (SettledWith m) ss t a) (between-first P Q (SettledWith m) ss t a))
+          (after-first P Q (SettledWith m) ss t a some)
         where
           go : (j : ℕ) → j < length ss → SoundWith (map_at w t) t → ((i : ℕ) → 0 < i → i < length ss → SoundWith m (apply (take i ss) t))
               → (Sound w ns (apply (take j ss) t)) × ((map_at w (apply (take j ss) t) ≡ map_at w t) ⊎ (map_at w (apply (take j ss) t) ≡ m))
@@ -78,18 +76,28 @@ module _ (w : ℕ) (ns : List ℕ) where
 
   -- a larger bound
   pub phase-within : (b c : ℕ) (t : Words) (ss : List Store) (m : List Slot) → b ≤ c → Phase w ns b t ss m → Phase w ns c t ss m
-  phase-within b c t ss m h f = record { part-sound = f.part-sound; part-map = f.part-map; settles = f.settles; maps = f.maps; few = omega (arith, f.few); inside = f.inside }
+  phase-within b c t ss m h f =
+      record {
+        part-sound = f.part-sound;
+        part-map = f.part-map;
+        settles = f.settles;
+        maps = f.maps;
+        few = omega (arith, f.few);
+        inside = f.inside;
+      }
 
   pub stage-whole : (b : ℕ) (t : Words) (ss : List Store) → Stage b t ss → SoundWith (map_at w t) (apply ss t)
   stage-whole b t ss f = rw take-length at (f.part (length ss))
 
   -- a stage, then a phase
-  pub stage-phase : (b c : ℕ) (t : Words) (ss us : List Store) (m : List Slot) → Stage b t ss → Phase w ns c (apply ss t) us m → Phase w ns (b + c) t (ss ++ us) m
+  pub stage-phase : (b c : ℕ) (t : Words) (ss us : List Store) (m : List Slot) → Stage b t ss → Phase w ns c (apply ss t) us m
+      → Phase w ns (b + c) t (ss ++ us) m
   stage-phase b c t ss us m f g =
       let s = stage-whole b t ss f in
       record {
         part-sound = always-append (λ (u : Words). Sound w ns u) ss us t (λ j. (f.part j).0) g.part-sound;
-        part-map = always-append (λ (u : Words). (map_at w u ≡ map_at w t) ⊎ (map_at w u ≡ m)) ss us t (λ j. inl (f.part j).1) (λ j. ⊎_map (λ e. e ∙ s.1) (λ e. e) (g.part-map j));
+        part-map = always-append (λ (u : Words). (map_at w u ≡ map_at w t) ⊎ (map_at w u ≡ m)) ss us t (λ j. inl (f.part j).1)
+            (λ j. ⊎_map (λ e. e ∙ s.1) (λ e. e) (g.part-map j));
         settles = rw (apply-append ss us t) g.settles;
         maps = rw (apply-append ss us t) g.maps;
         few = omega (arith, length-orders-append ss us, f.few, g.few);

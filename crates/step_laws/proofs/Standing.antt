@@ -1,10 +1,6 @@
 -- The nodes that a search stands on in a settled table, level by level; and in another table that has them with the same range of keys.
-use mathlib.Core.Path.{◌≡◌, refl, ap, ◌∙◌}
-use mathlib.Core.Bool.{true, ◌||◌}
-use mathlib.Core.List.{List, Memᴰ}
-use Prim.Native.Nat.{ℕ, suc, ◌≤◌, ◌<◌}
-use native.Mathlib.Omega.{arith}
-use lib.Dec.{eqb, ltb}
+use Rattle.std.proofs.Common.{◌≡◌, ℕ, suc, ◌<◌, ◌≤◌, true, ◌||◌, eqb, ltb, List, refl, ap, ◌∙◌, arith}
+use mathlib.Core.List.{Memᴰ}
 use Rattle.model.specs.Table.{Words}
 use Rattle.model.specs.Slots.{NodeView, View, node_view, height}
 use Rattle.model.specs.Search.{below, within}
@@ -25,15 +21,22 @@ use Rattle.step_laws.proofs.TreeAt.{tree_at, Fine, standing_at, root_at, same-wo
 -- ---- of another view
 
 -- a reached node of level d whose range has k
-pub stands : (v : View) (k d n : ℕ) → Orderly v → Memᴰ n (reached v) → (v.node n).level ≡ d → (v.node n).fence ≤ k → within v n k ≡ true → Stands v k d n
+pub stands : (v : View) (k d n : ℕ) → Orderly v → Memᴰ n (reached v) → (v.node n).level ≡ d → (v.node n).fence ≤ k
+    → within v n k ≡ true → Stands v k d n
 stands v k d n o m l f w = record {
   reached = m;
-  covers = record { good = each-mem (Good v) o.good m; at = record { range = (each-mem (Bounded v (height v)) (reached-bounds v o) m).0; level = l }; inside = w; fence = f };
+  covers = record {
+    good = each-mem (Good v) o.good m;
+    at = record { range = (each-mem (Bounded v (height v)) (reached-bounds v o) m).0; level = l };
+    inside = w;
+    fence = f;
+  };
 }
 
 -- the view w reads the same of n and of its sibling's fence
 pub stands-same : (v w : View) (k d n : ℕ) → Orderly w → Memᴰ n (reached w) → (w.node n).level ≡ (v.node n).level
-    → (w.node n).fence ≡ (v.node n).fence → (w.node n).sibling ≡ (v.node n).sibling → (w.node (v.node n).sibling).fence ≡ (v.node (v.node n).sibling).fence
+    → (w.node n).fence ≡ (v.node n).fence → (w.node n).sibling ≡ (v.node n).sibling → (w.node (v.node n).sibling).fence
+    ≡ (v.node (v.node n).sibling).fence
     → Stands v k d n → Stands w k d n
 unfolding below
 stands-same v w k d n o m l f b g c = stands w k d n o m (l ∙ c.covers.at.level) (rw f c.covers.fence)
@@ -50,6 +53,7 @@ module _ (w : ℕ) (ns : List ℕ) where
     root-reached = rw (reached-children (tree_at w t) o) (Memᴰ.head refl)
 
     module _ (k : ℕ) where
+      -- in a settled tree the node that the search for k stands on, on level d, covers k there
       pub standing-stands : (d : ℕ) → d ≤ height (tree_at w t) → Stands (tree_at w t) k d (standing_at w t d k)
       unfolding standing_in
       standing-stands d h = path-stands (tree_at w t) k d o h
@@ -70,7 +74,8 @@ module _ (w : ℕ) (ns : List ℕ) where
   -- what a free node holds does not matter
   module _ (t : Words) (b : ℕ) (s : Fine w ns t nothing) (f : Free w ns t b) (x : NodeView) (t' : Words) (u : Stays w ns t b x t') where
     pub stays-height : height (tree_at w t') ≡ height (tree_at w t)
-    stays-height = ap (level_of (tree_at w t')) (same-word w s.low u.header) ∙ level-eq (u.node.else (root_at w t) (free-other w ns t b s f (root_at w t) (root-reached t s)))
+    stays-height = ap (level_of (tree_at w t')) (same-word w s.low u.header)
+        ∙ level-eq (u.node.else (root_at w t) (free-other w ns t b s f (root_at w t) (root-reached t s)))
 
     pub stays-stands : (k d n : ℕ) → Stands (tree_at w t) k d n → Stands (tree_at w t') k d n
     stays-stands k d n c =

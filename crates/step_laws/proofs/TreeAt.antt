@@ -1,8 +1,5 @@
 -- The tree at a header word, and nodes that it must not reach: what the laws of one tree speak of.
-use mathlib.Core.Path.{◌≡◌}
-use mathlib.Core.Bool.{true, false}
-use mathlib.Core.List.{List}
-use Prim.Native.Nat.{ℕ, ◌<◌}
+use Rattle.std.proofs.Common.{◌≡◌, ℕ, ◌<◌, true, false, List}
 use Rattle.model.specs.Table.{Words, at}
 use Rattle.model.specs.Slots.{Slot, View, view_from}
 use Rattle.model.specs.Search.{path}
@@ -18,6 +15,7 @@ use Rattle.change_laws.proofs.Parts.{HasLeft}
 -- ---- the tree whose root header word w holds
 
 module _ (w : ℕ) where
+  -- the view from the root that header word w holds
   abbrev pub tree_at : Words → View
   tree_at t = view_from t (at t w)
 
@@ -36,6 +34,7 @@ module _ (w : ℕ) where
   unfoldable pub repair_at : Words → List Store
   repair_at t = repair_of t (leftover (tree_at t))
 
+  -- the table after the repair of that tree alone
   unfoldable pub repaired_at : Words → Words
   repaired_at t = apply (repair_at t) t
 

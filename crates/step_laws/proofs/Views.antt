@@ -1,10 +1,6 @@
 -- From the view of a table after stores to one node to what the table is: sound or settled, and with which map.
-use mathlib.Core.Path.{◌≡◌, refl, ap, sym, ◌∙◌}
-use mathlib.Core.Logic.{◌≢◌}
-use mathlib.Core.Bool.{true}
-use mathlib.Core.List.{List, Memᴰ}
-use Prim.Native.Nat.{ℕ, zero, suc, ◌≤◌, ◌<◌}
-use native.Mathlib.Omega.{arith}
+use Rattle.std.proofs.Common.{◌≡◌, ℕ, zero, suc, ◌<◌, ◌≤◌, true, ◌≢◌, List, sym, refl, ap, ◌∙◌, arith}
+use mathlib.Core.List.{Memᴰ}
 use Rattle.model.specs.Table.{Words, has_node, node}
 use Rattle.model.specs.Slots.{Slot, View, node_view, height}
 use Rattle.model.specs.Reached.{reached, mapping}
@@ -57,10 +53,15 @@ module _ (w : ℕ) where
     left-some zero e z = let k = ((leaf-iff (tree_at w t) n).0 (leaf-ok (tree_at w t) n good e)).left in omega arith
     left-some (suc d) e z = not-zero (tree_at w t) (node_view t n).left (left-range (tree_at w t) d n (inner (tree_at w t) d n good e)) z
 
+    -- a reached node lies in the table, is clear where it must be, and has a left other than 0
     pub reached-usable : Usable t n
     reached-usable =
         let b = each-mem (Bounded (tree_at w t) (height (tree_at w t))) (reached-bounds (tree_at w t) o) m in
-        record { there = has-node-head t n h ∙ b.0; clear = (good-parts (tree_at w t) n good).0; left = left-some (node_view t n).level refl }
+        record {
+          there = has-node-head t n h ∙ b.0;
+          clear = (good-parts (tree_at w t) n good).0;
+          left = left-some (node_view t n).level refl;
+        }
 
 -- nothing is left, and the map is that of before
 pub keeps-settles : (v u : View) → Keeps v u nothing → Settles v u (mapping v)
@@ -71,9 +72,11 @@ module _ (w : ℕ) (ns : List ℕ) where
 
   module _ (t t' : Words) (u : View) (e : tree_at w t' ≡ u) (q : SameHeader t t') {x : Leftover} (f : Fine w ns t x) where
     pub view-fine : (y : Leftover) → HasLeft u y → has_room u y ≡ true → Avoids ns u → Fine w ns t' y
-    view-fine y l r o = record { low = f.low; header = same-head q f.header; left = rw e l; room = rw e r; apart = avoids-is ns (tree_at w t') u e o }
+    view-fine y l r o = record
+        { low = f.low; header = same-head q f.header; left = rw e l; room = rw e r; apart = avoids-is ns (tree_at w t') u e o }
 
-    pub view-sound : (y : Leftover) → HasLeft u y → has_room u y ≡ true → Avoids ns u → (m : List Slot) → mapping u ≡ m → SoundWith w ns m t'
+    pub view-sound : (y : Leftover) → HasLeft u y → has_room u y ≡ true → Avoids ns u → (m : List Slot) → mapping u
+        ≡ m → SoundWith w ns m t'
     view-sound y l r o m g = ((y, view-fine y l r o), ap mapping e ∙ g)
 
     pub view-keeps : (y : Leftover) → Keeps (tree_at w t) u y → has_room (tree_at w t) y ≡ true → SoundWith w ns (map_at w t) t'
@@ -83,15 +86,18 @@ module _ (w : ℕ) (ns : List ℕ) where
     view-settles m s = (view-fine nothing s.left refl (rw s.reached f.apart), ap mapping e ∙ s.mapping)
 
   -- nothing that is seen has changed
-  pub view-same : (t t' : Words) (y : Leftover) → Fine w ns t y → tree_at w t' ≡ tree_at w t → SameHeader t t' → SoundWith w ns (map_at w t) t'
+  pub view-same : (t t' : Words) (y : Leftover) → Fine w ns t y → tree_at w t' ≡ tree_at w t → SameHeader t t'
+      → SoundWith w ns (map_at w t) t'
   view-same t t' y f e q = view-sound t t' (tree_at w t) e q f y f.left f.room f.apart (map_at w t) refl
 
   -- a node of t shows what it showed and hides one slot at most: t has y left, or y' with that slot
-  pub may-hide : (t : Words) (x : ℕ) (y y' : Leftover) → Fine w ns t y → (node_view t x).hidden ≡ 0 → Keeps (tree_at w t) (with_hidden (tree_at w t) x 1) y' → has_room (tree_at w t) y' ≡ true
+  pub may-hide : (t : Words) (x : ℕ) (y y' : Leftover) → Fine w ns t y → (node_view t x).hidden ≡ 0
+      → Keeps (tree_at w t) (with_hidden (tree_at w t) x 1) y' → has_room (tree_at w t) y' ≡ true
       → (t' : Words) → (h : ℕ) × (h ≤ 1) × Changed t x (node_view t x).shown h t' → SoundWith w ns (map_at w t) t'
   may-hide t x y y' f z k r t' u = go u.0 u.1 u.2
     where
       go : (h : ℕ) → h ≤ 1 → Changed t x (node_view t x).shown h t' → SoundWith w ns (map_at w t) t'
       go zero q c = view-same t t' y f (same-view w f.low t x (node_view t x).shown 0 t' c refl z) c.header
-      go (suc zero) q c = view-keeps t t' (with_hidden (tree_at w t) x 1) (hidden-view w f.low t x (node_view t x).shown 1 t' c refl) c.header f y' k r
+      go (suc zero) q c = view-keeps t t' (with_hidden (tree_at w t) x 1)
+          (hidden-view w f.low t x (node_view t x).shown 1 t' c refl) c.header f y' k r
       go (suc (suc h)) q c = absurd (omega arith)

@@ -1,9 +1,5 @@
 -- All 32 words of a free node stored in rising order: every store leaves a settled table with the same map and the same nodes reached.
-use mathlib.Core.Path.{◌≡◌, refl, ap}
-use mathlib.Core.List.{List, [], ◌∷◌}
-use Prim.Native.Nat.{ℕ, suc, ◌+◌, ◌*◌, ◌≤◌}
-use native.Mathlib.Omega.{arith}
-use lib.ListN.{length}
+use Rattle.std.proofs.Common.{◌≡◌, ℕ, suc, ◌+◌, ◌*◌, ◌≤◌, List, [], ◌∷◌, length, refl, ap, arith}
 use Rattle.model.specs.Table.{Words, line, node_start}
 use Rattle.model.specs.Slots.{Slot, NodeView, node_view}
 use Rattle.model.specs.Reached.{reached}
@@ -45,6 +41,7 @@ unfolding put_all
 put-all-below h w [] e = tt
 put-all-below h w (x ∷ ws) e = (omega arith, put-all-below h (suc w) ws (omega arith))
 
+-- storing words takes one store for each
 pub put-all-length : (w : ℕ) (ws : Words) → length (put_all w ws) ≡ length ws
 unfolding put_all
 put-all-length w [] = refl
@@ -56,7 +53,8 @@ put-all-few b [] e = absurd (omega arith)
 put-all-few b (x ∷ ws) e =
     let w = node_start b in
     let rest = put_all (suc w) ws in
-    let c = rising-changes (line w) (line w + 3) rest (omega arith) (put-all-rises (line w) (suc w) ws (omega arith)) (put-all-below (line w + 3) (suc w) ws (unfold node_start in omega arith)) in
+    let c = rising-changes (line w) (line w + 3) rest (omega arith) (put-all-rises (line w) (suc w) ws (omega arith))
+    (put-all-below (line w + 3) (suc w) ws (unfold node_start in omega arith)) in
     let n = put-all-length w (x ∷ ws) in
     let f = orders-flush_count (put w x) rest in
     unfold put_all line_changes in omega (arith, orders-length (put w x ∷ rest), n, f, c)
@@ -73,11 +71,13 @@ module _ (w : ℕ) (ns : List ℕ) where
     pub node : ButAt (node_view t) (node_view t') b n
 
   -- Whatever a free node holds, the table is settled, with the same map and the same nodes reached.
-  pub free-stays : (t : Words) (b : ℕ) → Fine w ns t nothing → Free w ns t b → (t' : Words) → Elsewhere b t t' → Stays t b (node_view t' b) t'
+  pub free-stays : (t : Words) (b : ℕ) → Fine w ns t nothing → Free w ns t b → (t' : Words) → Elsewhere b t t'
+      → Stays t b (node_view t' b) t'
   free-stays t b s f t' o =
       let h = else-header t t' b o in
       let e = view-else t t' b o ((has-node-iff t b).0 (free-there w ns t b s f)).0 in
-      let k = unreached-keeps (tree_at w t) (tree_at w t') b (same-nodes h) (same-word w s.low h) e nothing s.left (free-some w ns t b f) f.unreached in
+      let k = unreached-keeps (tree_at w t) (tree_at w t') b (same-nodes h) (same-word w s.low h) e nothing s.left
+      (free-some w ns t b f) f.unreached in
       record {
         fine = view-fine w ns t t' (tree_at w t') refl h s nothing k.left refl (rw k.reached s.apart);
         mapping = k.mapping;
@@ -96,14 +96,16 @@ module _ (w : ℕ) (ns : List ℕ) where
     long = length-node-words left sibling level fence ss
 
     inside : StoresInside (length t) (put_all (node_start b) words)
-    inside = put-all-inside (length t) (node_start b) words (unfold node_start in omega (arith, long, (has-node-iff t b).0 (free-there w ns t b s f)))
+    inside = put-all-inside (length t) (node_start b) words
+        (unfold node_start in omega (arith, long, (has-node-iff t b).0 (free-there w ns t b s f)))
 
     still : (t' : Words) → Elsewhere b t t' → SoundWith w ns (map_at w t) t'
     still t' o = let u = free-stays t b s f t' o in ((nothing, u.fine), u.mapping)
 
     pub whole-stage : Stage w ns 36 t (put_all (node_start b) (node_words left sibling level fence ss))
     whole-stage = stage-until w ns 36 t (put_all (node_start b) words) (put-all-few b words long) inside
-        (until-map do_store (Elsewhere b t) (SoundWith w ns (map_at w t)) (Elsewhere b t) (SoundWith w ns (map_at w t)) still still (put_all (node_start b) words) t (put-all-along t b words (omega (arith, long))))
+        (until-map do_store (Elsewhere b t) (SoundWith w ns (map_at w t)) (Elsewhere b t) (SoundWith w ns (map_at w t)) still still
+        (put_all (node_start b) words) t (put-all-along t b words (omega (arith, long))))
 
     pub whole-stays : AllShown left ss → length ss ≤ 11
         → Stays t b (new_node left sibling level fence ss) (apply (put_all (node_start b) (node_words left sibling level fence ss)) t)

@@ -1,32 +1,24 @@
--- A quick deletion and a quick class change on any table with any summary: where they are not refused their stores lie in the table, and their
+-- A quick deletion and a quick class change on any table with any summary: where they are not refused their stores lie in the table, and
+-- their
 -- orders in a list of 2,560 words.
-use mathlib.Core.Path.{◌≡◌, refl, ap, sym, ◌∙◌}
-use mathlib.Core.Bool.{Bool, true, false, ◌&&◌, ◌||◌, false≢true}
-use mathlib.Core.Logic.{◌≢◌}
-use mathlib.Core.List.{List, []}
-use Prim.Native.Nat.{ℕ, zero, suc, ◌+◌, ◌*◌, ◌-◌, ◌≤◌, ◌<◌}
-use native.Mathlib.Omega.{arith}
-use lib.Dec.{eqb, ltb}
-use lib.ListN.{length, get_or, take}
-use borrow.Author.Tests.{eqb-true, ltb-true}
+use Rattle.std.proofs.Common.{◌≡◌, ℕ, zero, suc, ◌+◌, ◌-◌, ◌*◌, ◌<◌, ◌≤◌, Bool, true, false, ◌&&◌, ◌||◌, eqb, ltb, ◌≢◌, List, [], length}
+use Rattle.std.proofs.Common.{get_or, sym, refl, ap, ◌∙◌, arith, ltb-true, eqb-true}
+use mathlib.Core.Bool.{false≢true}
 use Rattle.model.specs.Table.{Words, nodes, in_range, node_start, has_node}
 use Rattle.model.specs.Slots.{NodeView, View, node_view, view, view_of, height}
 use Rattle.model.specs.Search.{below, within, moved, down, on_level, passes, locate, path_from, path}
 use Rattle.model.specs.Orders.{Store, apply}
-use Rattle.model.specs.Shifts.{last_pointer, shift_out, place_of}
+use Rattle.model.specs.Shifts.{place_of}
 use Rattle.model.specs.Writes.{shift_out_at, set_class_at, child_before, frees_leaf, free_stores, standing_in, standing, delete_settled}
 use Rattle.model.specs.Summary.{fit_node, is_there, way_ok, key_there, frees, neighbour_ok}
 use Rattle.list_laws.proofs.Tools.{and-iff, leb-iff, all-each}
 use Rattle.list_laws.proofs.Members.{each-at}
-use Rattle.slot_laws.proofs.Places.{shift-out-places}
 use Rattle.cut_laws.proofs.Applying.{length-apply}
 use Rattle.tree_laws.proofs.Rows.{range-iff}
 use Rattle.tree_laws.proofs.SearchLaw.{path-length}
-use Rattle.word_laws.proofs.Outside.{Outside, outside-start, outside-wider}
-use Rattle.word_laws.proofs.Frames.{fence-same, view-else}
 use Rattle.step_laws.proofs.Bounds.{shift-out-few, shift-out-inside}
-use Rattle.two_laws.proofs.LeafStores.{outside-apply, slots-into}
 use Rattle.summary_laws.proofs.Testing.{has-place}
+use Rattle.summary_laws.proofs.ShiftedOut.{out-other, out-fence, out-before}
 use Rattle.summary_laws.proofs.AnyWords.{Fits, fits-none, fits-append, fits-more, fits-one, in-table}
 
 -- ---- the nodes of a way that passed the tests
@@ -36,11 +28,13 @@ module _ (v : View) (k : ℕ) where
   unfolding passes moved
   moved-level l n e = let u = (and-iff (on_level v l n) _).0 e in go (within v n k) refl u.0 u.1
     where
-      go : (b : Bool) → within v n k ≡ b → on_level v l n ≡ true → (eqb (v.node n).sibling 0 || on_level v l (v.node n).sibling) ≡ true → on_level v l (moved v n k) ≡ true
+      go : (b : Bool) → within v n k ≡ b → on_level v l n ≡ true → (eqb (v.node n).sibling 0 || on_level v l (v.node n).sibling) ≡ true
+          → on_level v l (moved v n k) ≡ true
       go true q a c = rw (q, moved) a
       go false q a c = rw (q, moved) (other (eqb (v.node n).sibling 0) refl c)
         where
-          other : (b : Bool) → eqb (v.node n).sibling 0 ≡ b → (eqb (v.node n).sibling 0 || on_level v l (v.node n).sibling) ≡ true → on_level v l (v.node n).sibling ≡ true
+          other : (b : Bool) → eqb (v.node n).sibling 0 ≡ b → (eqb (v.node n).sibling 0 || on_level v l (v.node n).sibling) ≡ true
+              → on_level v l (v.node n).sibling ≡ true
           other false z c = ap (λ (b : Bool). b || on_level v l (v.node n).sibling) (sym z) ∙ c
           other true z c = absurd (false≢true (sym q ∙ unfold below in ap (λ (b : Bool). b || ltb k (v.node (v.node n).sibling).fence) z))
 
@@ -78,6 +72,7 @@ pub record Met (n : ℕ) (t : Words) (k l : ℕ) : Type 0 where
   pub plain : (node_view t (standing n t l k)).hidden ≡ 0
   pub few : length (node_view t (standing n t l k)).shown ≤ 11
 
+-- if the tests along the way to k pass, the node that stands for k on each level is what they say
 pub way-met : (n : ℕ) (ms t : Words) (k : ℕ) → way_ok ms (view_of n t) k ≡ true → (l : ℕ) → l ≤ height (view_of n t) → Met n t k l
 unfolding way_ok fit_node on_level standing_in
 way-met n ms t k e l h =
@@ -85,14 +80,17 @@ way-met n ms t k e l h =
     let u = simp and-iff at e in
     let i = height v - l in
     let z : height v - i ≡ l = omega arith in
-    let on : (in_range (nodes t) (standing n t l k) ≡ true) × (eqb (node_view t (standing n t l k)).level l ≡ true) = (and-iff _ _).0 (rw z at (level-at v k (height v) v.root i u.1.0 (omega arith))) in
-    let fit = each-at (λ (m : ℕ). fit_node ms v m ≡ true) (path v k) 0 i (omega (arith, path-length v k)) ((all-each (fit_node ms v) (path v k)).0 u.1.1) in
+    let on : (in_range (nodes t) (standing n t l k) ≡ true) × (eqb (node_view t (standing n t l k)).level l ≡ true) =
+    (and-iff _ _).0 (rw z at (level-at v k (height v) v.root i u.1.0 (omega arith))) in
+    let fit = each-at (λ (m : ℕ). fit_node ms v m ≡ true) (path v k) 0 i (omega (arith, path-length v k))
+    ((all-each (fit_node ms v) (path v k)).0 u.1.1) in
     let f = simp and-iff at fit in
     record { range = on.0; level = eqb-true _ _ on.1; plain = eqb-true _ _ f.1.0; few = (leb-iff _ _).0 f.1.1 }
 
 -- ---- the stores
 
-module _ (n : ℕ) (ms t : Words) (k : ℕ) (size : length t ≡ 8 + 32 * nodes t) (way : way_ok ms (view_of n t) k ≡ true) (has : key_there n t k ≡ true) where
+module _ (n : ℕ) (ms t : Words) (k : ℕ) (size : length t ≡ 8 + 32 * nodes t) (way : way_ok ms (view_of n t) k ≡ true)
+    (has : key_there n t k ≡ true) where
   abbrev x : ℕ
   x = standing n t 0 k
 
@@ -121,13 +119,6 @@ module _ (n : ℕ) (ms t : Words) (k : ℕ) (size : length t ≡ 8 + 32 * nodes 
   abbrev t₁ : Words
   t₁ = apply (shift_out_at t (standing n t 0 k) k) t
 
-  out : Outside (node_start (standing n t 0 k) + 8) 24 t t₁
-  unfolding shift_out_at
-  out =
-      let ss = (node_view t x).shown in
-      outside-apply (node_start x + 8) 24 t _ t
-      (slots-into x (shift_out (node_view t x).left ss (place_of k ss)) (shift-out-places (node_view t x).left ss (place_of k ss) 12 place (omega (arith, leaf.few)))) (outside-start (node_start x + 8) 24 t)
-
   module _ (ok : neighbour_ok n t k ≡ true) (free : frees_leaf n t (standing n t 1 k) (standing n t 0 k) ≡ true) where
     high : 1 ≤ height (view_of n t)
     unfolding frees_leaf
@@ -139,19 +130,22 @@ module _ (n : ℕ) (ms t : Words) (k : ℕ) (size : length t ≡ 8 + 32 * nodes 
     apart : standing n t 1 k ≢ standing n t 0 k
     apart e = omega (arith, leaf.level, parent.level, ap (λ (m : ℕ). (node_view t m).level) e)
 
+    some : 1 ≤ standing n t 0 k
+    some = ((range-iff (nodes t) x).0 leaf.range).0
+
     same-p : node_view t₁ (standing n t 1 k) ≡ node_view t (standing n t 1 k)
-    same-p = let u = (range-iff (nodes t) x).0 leaf.range in (view-else t t₁ x (outside-wider (node_start x + 8) 24 (node_start x) 32 t t₁ (omega arith) (omega arith) out) u.0).else p apart
+    same-p = out-other t x k some leaf.few place p apart
 
     same-fence : (node_view t₁ (standing n t 0 k)).fence ≡ (node_view t (standing n t 0 k)).fence
-    same-fence = fence-same (node_start x + 8) 24 t t₁ out x (λ a b. omega arith)
+    same-fence = out-fence t x k some leaf.few place
 
-    same-before : child_before (view t₁) (standing n t 1 k) (standing n t 0 k) ≡ child_before (view_of n t) (standing n t 1 k) (standing n t 0 k)
+    same-before : child_before (view t₁) (standing n t 1 k) (standing n t 0 k)
+        ≡ child_before (view_of n t) (standing n t 1 k) (standing n t 0 k)
     unfolding child_before
-    same-before =
-        ap (λ (v : NodeView). last_pointer v.left (take (place_of (node_view t₁ x).fence v.shown) v.shown)) same-p
-        ∙ ap (λ (f : ℕ). last_pointer (node_view t p).left (take (place_of f (node_view t p).shown) (node_view t p).shown)) same-fence
+    same-before = out-before t x k some leaf.few place p apart
 
-    tests : (place_of (node_view t (standing n t 0 k)).fence (node_view t (standing n t 1 k)).shown < length (node_view t (standing n t 1 k)).shown)
+    tests : (place_of (node_view t (standing n t 0 k)).fence (node_view t (standing n t 1 k)).shown < length
+        (node_view t (standing n t 1 k)).shown)
         × (in_range (nodes t) (child_before (view_of n t) (standing n t 1 k) (standing n t 0 k)) ≡ true)
     unfolding neighbour_ok
     tests =
@@ -167,12 +161,18 @@ module _ (n : ℕ) (ms t : Words) (k : ℕ) (size : length t ≡ 8 + 32 * nodes 
         let few : length (node_view t₁ p).shown ≤ 11 = omega (arith, parent.few, ap length slots) in
         let at-place : place_of (node_view t₁ x).fence (node_view t₁ p).shown ≡ place_of (node_view t x).fence (node_view t p).shown =
         ap (λ (f : ℕ). place_of f (node_view t₁ p).shown) same-fence ∙ ap (place_of (node_view t x).fence) slots in
-        let there : place_of (node_view t₁ x).fence (node_view t₁ p).shown < length (node_view t₁ p).shown = omega (arith, tests.0, at-place, ap length slots) in
+        let there : place_of (node_view t₁ x).fence (node_view t₁ p).shown < length (node_view t₁ p).shown =
+        omega (arith, tests.0, at-place, ap length slots) in
         let p-in : has_node t₁ p ≡ true = in-table (nodes t) t₁ (long ∙ size) p parent.range in
         let q = (range-iff (nodes t) _).0 tests.1 in
-        let near₁ : Fits 25 (length t₁) (shift_out_at t₁ p (node_view t₁ x).fence) = record { inside = shift-out-inside t₁ p (node_view t₁ x).fence few there p-in; few = shift-out-few t₁ p (node_view t₁ x).fence few there } in
+        let near₁ : Fits 25 (length t₁) (shift_out_at t₁ p (node_view t₁ x).fence) =
+        record {
+          inside = shift-out-inside t₁ p (node_view t₁ x).fence few there p-in;
+          few = shift-out-few t₁ p (node_view t₁ x).fence few there;
+        } in
         let near : Fits 25 (length t) (shift_out_at t₁ p (node_view t₁ x).fence) = rw long at near₁ in
-        fits-append 25 2 (length t) (shift_out_at t₁ p (node_view t₁ x).fence) _ near (fits-one (length t) _ _ (rw same-before (omega (arith, q.0, q.1, size))))
+        fits-append 25 2 (length t) (shift_out_at t₁ p (node_view t₁ x).fence) _ near
+        (fits-one (length t) _ _ (rw same-before (omega (arith, q.0, q.1, size))))
 
   -- The stores of a quick deletion, whatever the words are.
   pub delete-fits : neighbour_ok n t k ≡ true → Fits 52 (length t) (delete_settled n t k)
@@ -180,6 +180,8 @@ module _ (n : ℕ) (ms t : Words) (k : ℕ) (size : length t ≡ 8 + 32 * nodes 
   delete-fits ok = fits-append 25 27 (length t) (shift_out_at t x k) _ out-fits (go (frees_leaf n t p x) refl)
     where
       go : (b : Bool) → frees_leaf n t (standing n t 1 k) (standing n t 0 k) ≡ b
-          → Fits 27 (length t) (elim (frees_leaf n t (standing n t 1 k) (standing n t 0 k)) as (λ b. List Store) [ true ↦ free_stores t₁ (standing n t 1 k) (standing n t 0 k) | false ↦ [] ])
+          → Fits 27 (length t)
+          (elim (frees_leaf n t (standing n t 1 k) (standing n t 0 k)) as (λ b. List Store)
+          [ true ↦ free_stores t₁ (standing n t 1 k) (standing n t 0 k) | false ↦ [] ])
       go true e = rw e (free-fits ok e)
       go false e = rw e (fits-more 0 27 (length t) [] (omega arith) (fits-none (length t)))

@@ -1,11 +1,9 @@
 -- Marks that are true of a table: fresh nodes by them, a mark more, a mark less.
-use mathlib.Core.Path.{◌≡◌, refl, ap, sym, ◌∙◌}
-use mathlib.Core.Bool.{Bool, true, false, not, ◌||◌, or-false}
-use mathlib.Core.Logic.{◌≢◌, ⊎_elim}
-use mathlib.Core.List.{List, Memᴰ}
-use Prim.Native.Nat.{ℕ, zero, suc, ◌+◌, ◌-◌, ◌*◌, ◌/◌, ◌≤◌, ◌<◌}
-use native.Mathlib.Omega.{arith}
-use lib.ListN.{length, length-replicate, replicate}
+use Rattle.std.proofs.Common.{◌≡◌, ℕ, zero, suc, ◌+◌, ◌-◌, ◌*◌, ◌/◌, ◌<◌, ◌≤◌, Bool, true, false, not, ◌||◌, ◌≢◌, List, length, replicate}
+use Rattle.std.proofs.Common.{sym, refl, ap, ◌∙◌, ⊎_elim, arith}
+use mathlib.Core.Bool.{or-false}
+use mathlib.Core.List.{Memᴰ}
+use lib.ListN.{length-replicate}
 use Rattle.model.specs.Table.{Words, nodes, in_range}
 use Rattle.model.specs.Reached.{head_or, reached, reached_all}
 use Rattle.model.specs.SoundTest.{elem}
@@ -19,7 +17,8 @@ use Rattle.list_laws.proofs.Counts.{numbers-each}
 use Rattle.tree_laws.proofs.Rows.{range-iff}
 use Rattle.step_laws.proofs.TreeAt.{tree_at}
 use Rattle.two_laws.proofs.Arrange.{Arr, arr-covers}
-use Rattle.set_laws.proofs.Marks.{has-put-same, has-put-other, put-length, none-marked, cleared-length, has-cleared-same, has-cleared-other, each-length, each-marked}
+use Rattle.set_laws.proofs.Marks.{has-put-same, has-put-other, put-length, none-marked, cleared-length, has-cleared-same, has-cleared-other}
+use Rattle.set_laws.proofs.Marks.{each-length, each-marked}
 
 -- a node that one tree reaches
 pub reached-own : (w : ℕ) (ws : List ℕ) (t : Words) (m : ℕ) → Arr w ws t → Memᴰ m (reached (tree_at w t)) → elem m (reached_all t) ≡ true
@@ -41,10 +40,12 @@ module _ (ms t : Words) (m : MarksTrue ms t) where
 
   unmarked-same : (ns : List ℕ) → Each In ns → unmarked ms ns ≡ unreached t ns
   unfolding unmarked unreached
-  unmarked-same ns h = filter-same _ _ ns (Each-map In (λ (n : ℕ). not (has ms n) ≡ not (elem n (reached_all t))) ns (λ n r. ap not (m.same n r)) h)
+  unmarked-same ns h =
+      filter-same _ _ ns (Each-map In (λ (n : ℕ). not (has ms n) ≡ not (elem n (reached_all t))) ns (λ n r. ap not (m.same n r)) h)
 
   row-in : (a c : ℕ) → 1 ≤ a → a + c ≤ suc (nodes t) → Each In (numbers a c)
-  row-in a c l h = Each-map (λ (n : ℕ). (a ≤ n) × (n < a + c)) In (numbers a c) (λ n q. let x = q.0 in let y = q.1 in (range-iff (nodes t) n).1 (omega arith, omega arith)) (numbers-each a c)
+  row-in a c l h = Each-map (λ (n : ℕ). (a ≤ n) × (n < a + c)) In (numbers a c)
+      (λ n q. let x = q.0 in let y = q.1 in (range-iff (nodes t) n).1 (omega arith, omega arith)) (numbers-each a c)
 
   pub unmarked-all : unmarked ms (numbers 1 (nodes t)) ≡ unreachable t
   unfolding unreachable
@@ -56,14 +57,18 @@ module _ (ms t : Words) (m : MarksTrue ms t) where
   free-fresh zero r = absurd (omega (arith, ((range-iff (nodes t) 0).0 r).0))
   free-fresh (suc a) r =
       let u = ((range-iff (nodes t) (suc a)).0 r).1 in
-      ap (head_or 0) (unmarked-same _ (Each-append In (numbers (suc (suc a)) (nodes t - suc a)) (numbers 1 a) (row-in (suc (suc a)) (nodes t - suc a) (omega arith) (omega arith)) (row-in 1 a (omega arith) (omega arith))))
+      ap (head_or 0) (unmarked-same _
+      (Each-append In (numbers (suc (suc a)) (nodes t - suc a)) (numbers 1 a)
+      (row-in (suc (suc a)) (nodes t - suc a) (omega arith) (omega arith)) (row-in 1 a (omega arith) (omega arith))))
 
   in-marks : (b : ℕ) → in_range (nodes t) b ≡ true → b < 64 * length ms
   unfolding mark_words
   in-marks b r = omega (arith, m.long, ((range-iff (nodes t) b).0 r).1)
 
-  module _ (t' : Words) (size : nodes t' ≡ nodes t) (b : ℕ) (r : in_range (nodes t) b ≡ true) (others : (x : ℕ) → x ≢ b → elem x (reached_all t') ≡ elem x (reached_all t)) where
-    other-marks : (ms' : Words) → ((y : ℕ) → y ≢ b → has ms' y ≡ has ms y) → has ms' b ≡ elem b (reached_all t') → (n : ℕ) → in_range (nodes t') n ≡ true → has ms' n ≡ elem n (reached_all t')
+  module _ (t' : Words) (size : nodes t' ≡ nodes t) (b : ℕ) (r : in_range (nodes t) b ≡ true)
+      (others : (x : ℕ) → x ≢ b → elem x (reached_all t') ≡ elem x (reached_all t)) where
+    other-marks : (ms' : Words) → ((y : ℕ) → y ≢ b → has ms' y ≡ has ms y) → has ms' b ≡ elem b (reached_all t') → (n : ℕ)
+        → in_range (nodes t') n ≡ true → has ms' n ≡ elem n (reached_all t')
     other-marks ms' e here n q = ⊎_elim (λ z. rw z here) (λ z. e n z ∙ m.same n (rw size at q) ∙ sym (others n z)) (same-or-not n b)
 
     -- a node more is reached, or one less
@@ -84,11 +89,14 @@ module _ (ms t : Words) (m : MarksTrue ms t) where
 
 -- ---- worked out
 
-pub marks-opened : (t : Words) → Each (λ (n : ℕ). in_range (nodes t) n ≡ true) (reached_all t) → MarksTrue (put_each (reached_all t) (replicate (mark_words (nodes t)) 0)) t
+pub marks-opened : (t : Words) → Each (λ (n : ℕ). in_range (nodes t) n ≡ true) (reached_all t)
+    → MarksTrue (put_each (reached_all t) (replicate (mark_words (nodes t)) 0)) t
 unfolding mark_words
 marks-opened t h = record {
   long = each-length (reached_all t) _ ∙ length-replicate (mark_words (nodes t)) 0;
   same = λ n r.
-      each-marked (reached_all t) (replicate (mark_words (nodes t)) 0) n (Each-map _ _ (reached_all t) (λ y q. omega (arith, length-replicate {A = ℕ} (suc (nodes t / 64)) 0, ((range-iff (nodes t) y).0 q).1)) h)
+      each-marked (reached_all t) (replicate (mark_words (nodes t)) 0) n
+      (Each-map _ _ (reached_all t)
+      (λ y q. omega (arith, length-replicate {A = ℕ} (suc (nodes t / 64)) 0, ((range-iff (nodes t) y).0 q).1)) h)
       ∙ ap (λ (b : Bool). elem n (reached_all t) || b) (none-marked (mark_words (nodes t)) n) ∙ or-false (elem n (reached_all t));
 }

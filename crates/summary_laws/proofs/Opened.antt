@@ -1,14 +1,9 @@
 -- The recordings of a settled table: how many, all different; and the summary that opening it gives is true of it.
-use mathlib.Core.Path.{◌≡◌, refl, ap, ◌∙◌}
-use mathlib.Core.Bool.{Bool, true, false, ◌&&◌, ◌||◌, or-false, and-false}
-use mathlib.Core.Logic.{◌≢◌, ◌⊎◌, inl, inr}
-use mathlib.Core.List.{List, [], ◌∷◌, ◌++◌, map, append-nil}
-use Prim.Native.Nat.{ℕ, suc, ◌*◌, ◌≤◌, ◌<◌}
-use native.Mathlib.Omega.{arith}
-use lib.Dec.{eqb}
-use lib.ListN.{length, take, drop, replicate, length-append, length-replicate}
-use lib.Seq.{take_at, drop_at}
-use borrow.Author.Tests.{eq-eqb, ne_eqb}
+use Rattle.std.proofs.Common.{◌≡◌, ℕ, suc, ◌*◌, ◌<◌, ◌≤◌, Bool, true, false, ◌&&◌, ◌||◌, eqb, ◌≢◌, ◌⊎◌, List, [], ◌∷◌, ◌++◌, map, length}
+use Rattle.std.proofs.Common.{take, drop, replicate, refl, ap, ◌∙◌, inl, inr, append-nil, arith, length-append, take_at, drop_at, eq-eqb}
+use Rattle.std.proofs.Common.{ne_eqb}
+use mathlib.Core.Bool.{or-false, and-false}
+use lib.ListN.{length-replicate}
 use Rattle.model.specs.Table.{Words, at, nodes, in_range}
 use Rattle.model.specs.Slots.{Slot, RECORDINGS, recording, pointer_of, height, view_of}
 use Rattle.model.specs.Search.{within}
@@ -44,7 +39,11 @@ unfolding mapping kept
 map-few n t o =
     let v = view_of n t in
     let few : Each (λ (x : ℕ). length (kept v x) ≤ 11) (leaves v) = mem-each (λ (x : ℕ). length (kept v x) ≤ 11) (leaves v) (λ x m.
-    omega (arith, filter-short (λ (s : Slot). within v x s.key) (v.node x).shown, shown-few t x (good-parts v x (each-mem (Good v) o.good ((mem-leaves v x o).0 m).0)).0)) in
+    omega (
+      arith,
+      filter-short (λ (s : Slot). within v x s.key) (v.node x).shown,
+      shown-few t x (good-parts v x (each-mem (Good v) o.good ((mem-leaves v x o).0 m).0)).0,
+    )) in
     omega (arith, flat-short (kept v) 11 (leaves v) few, leaves-few v (height v) (v.root ∷ []))
 
 cells-length : (n : ℕ) (ps : List Slot) → length (cells_of n ps) ≡ length ps
@@ -142,7 +141,8 @@ module _ (t : Words) (s : settled t ≡ true) where
 
       go : (at t 3 ≡ 0) ⊎ (at t 3 ≢ 0) → Each (λ (x : ℕ). x ≢ 0) (recordings_in t)
       go (inl z) = rw (alone t s z) (Each-append (λ (x : ℕ). x ≢ 0) (cells_of 1 (map_of 1 t)) [] (some 1 (omega arith)) tt)
-      go (inr z) = rw (beside t s z) (Each-append (λ (x : ℕ). x ≢ 0) (cells_of 1 (map_of 1 t)) (cells_of 2 (map_of 2 t)) (some 1 (omega arith)) (some 2 (omega arith)))
+      go (inr z) = rw (beside t s z)
+          (Each-append (λ (x : ℕ). x ≢ 0) (cells_of 1 (map_of 1 t)) (cells_of 2 (map_of 2 t)) (some 1 (omega arith)) (some 2 (omega arith)))
 
   pub no-zero : elem 0 (recordings_in t) ≡ false
   no-zero = (elem-false 0 (recordings_in t)).1 recordings-some
@@ -150,7 +150,9 @@ module _ (t : Words) (s : settled t ≡ true) where
   -- ---- opening
 
   marks : MarksTrue (put_each (reached_all t) (replicate (mark_words (nodes t)) 0)) t
-  marks = marks-opened t (Each-map (UpTo (nodes t)) (λ (n : ℕ). in_range (nodes t) n ≡ true) (reached_all t) (λ n u. (range-iff (nodes t) n).1 u) (reached-up t (settled-sound t s)))
+  marks = marks-opened t
+      (Each-map (UpTo (nodes t)) (λ (n : ℕ). in_range (nodes t) n ≡ true) (reached_all t) (λ n u. (range-iff (nodes t) n).1 u)
+      (reached-up t (settled-sound t s)))
 
   abbrev blanks : Words
   blanks = replicate (cell_words (nodes t)) 0
@@ -163,8 +165,10 @@ module _ (t : Words) (s : settled t ≡ true) where
   cells : SetOf (entered_all (replicate (cell_words (nodes t)) 0) (recordings_in t)) (λ (y : ℕ). elem y (recordings_in t))
   unfolding cell_words elem
   cells =
-      same-set (entered_all blanks (recordings_in t)) (λ (y : ℕ). elem y (recordings_in t) || elem y []) (λ (y : ℕ). elem y (recordings_in t)) (λ y. or-false (elem y (recordings_in t)))
-      (entered-all (recordings_in t) [] blanks (none-set (cell_words (nodes t))) refl recordings-some recordings-distinct (mem-each (λ (x : ℕ). elem x [] ≡ false) (recordings_in t) (λ x m. refl))
+      same-set (entered_all blanks (recordings_in t)) (λ (y : ℕ). elem y (recordings_in t) || elem y [])
+      (λ (y : ℕ). elem y (recordings_in t)) (λ y. or-false (elem y (recordings_in t)))
+      (entered-all (recordings_in t) [] blanks (none-set (cell_words (nodes t))) refl recordings-some recordings-distinct
+      (mem-each (λ (x : ℕ). elem x [] ≡ false) (recordings_in t) (λ x m. refl))
       (omega (arith, recordings-few t s, length-replicate {A = ℕ} (16 * nodes t) 0)))
 
   -- The summary that opening gives is true of the table.
@@ -176,7 +180,8 @@ module _ (t : Words) (s : settled t ≡ true) where
       let first : take (mark_words (nodes t)) (a ++ b) ≡ a = take_at a b (mark_words (nodes t)) marks.long in
       let second : drop (mark_words (nodes t)) (a ++ b) ≡ b = drop_at a b (mark_words (nodes t)) marks.long in
       record {
-        long = length-append a b ∙ omega (arith, marks.long, all-cells (recordings_in t) blanks, length-replicate {A = ℕ} (cell_words (nodes t)) 0);
+        long = length-append a b
+            ∙ omega (arith, marks.long, all-cells (recordings_in t) blanks, length-replicate {A = ℕ} (cell_words (nodes t)) 0);
         settled = s;
         marks = λ n r. ap (λ (ms : Words). has ms n) first ∙ marks.same n r;
         cells = rw second cells;

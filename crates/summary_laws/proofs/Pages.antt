@@ -1,13 +1,6 @@
 -- A quick listing with a summary that is true of the table is the plain one.
-use mathlib.Core.Path.{◌≡◌, refl, ap, sym, ◌∙◌}
-use mathlib.Core.Bool.{Bool, true, false}
-use mathlib.Core.Logic.{◌≢◌, ◌⊎◌, inl, inr, ⊎_elim}
-use mathlib.Core.List.{List, [], ◌∷◌, ◌++◌}
-use Prim.Native.Nat.{ℕ, zero, suc, ◌≤◌, ◌<◌}
-use native.Mathlib.Omega.{arith}
-use lib.Dec.{eqb, ltb}
-use lib.ListN.{length}
-use borrow.Author.Tests.{eq-eqb, ne_eqb, ltb-true, ltb-false, lt-ltb, le-ltb}
+use Rattle.std.proofs.Common.{◌≡◌, ℕ, zero, suc, ◌<◌, ◌≤◌, Bool, true, false, eqb, ltb, ◌≢◌, ◌⊎◌, List, [], ◌∷◌, ◌++◌, length, sym, refl}
+use Rattle.std.proofs.Common.{ap, ◌∙◌, inl, inr, ⊎_elim, arith, ltb-false, ltb-true, le-ltb, lt-ltb, eq-eqb, ne_eqb}
 use Rattle.model.specs.Results.{refused_with}
 use Rattle.model.specs.Table.{Words, nodes, no_collection}
 use Rattle.model.specs.Slots.{Slot, View, view_of}
@@ -44,7 +37,8 @@ module _ (v : View) (low high : ℕ) where
   up-goes c n z l = rw (ne_eqb n 0 z, le-ltb high (v.node n).fence l, leaves_up_to)
 
   -- a row of leaves, of which those from a fence above the highest on have no pair in the range
-  row-pages : (ns : List ℕ) (c : ℕ) → Row v 0 ns → length ns ≤ c → in_range_of low high (flat (kept v) (leaves_up_to v high c (head_or 0 ns))) ≡ in_range_of low high (flat (kept v) ns)
+  row-pages : (ns : List ℕ) (c : ℕ) → Row v 0 ns → length ns ≤ c
+      → in_range_of low high (flat (kept v) (leaves_up_to v high c (head_or 0 ns))) ≡ in_range_of low high (flat (kept v) ns)
   unfolding flat
   row-pages [] c r l = ap (λ (ms : List ℕ). in_range_of low high (flat (kept v) ms)) (up-ends c 0 (inl refl))
   row-pages (n ∷ ns) zero r l = absurd (omega arith)
@@ -57,17 +51,24 @@ module _ (v : View) (low high : ℕ) where
           go true e = inl (ltb-true b a e)
           go false e = inr (ltb-false b a e)
 
-      past : high < (v.node n).fence → in_range_of low high (flat (kept v) (leaves_up_to v high (suc c) n)) ≡ in_range_of low high (flat (kept v) (n ∷ ns))
+      past : high < (v.node n).fence → in_range_of low high (flat (kept v) (leaves_up_to v high (suc c) n))
+          ≡ in_range_of low high (flat (kept v) (n ∷ ns))
       past h =
           ap (λ (ms : List ℕ). in_range_of low high (flat (kept v) ms)) (up-ends (suc c) n (inr h)) ∙ range-outside low high [] tt
-          ∙ sym (range-outside low high (flat (kept v) (n ∷ ns)) (Each-map (λ (s : Slot). (v.node n).fence ≤ s.key) (λ (s : Slot). low ≤ s.key → s.key ≤ high → ⊥) (flat (kept v) (n ∷ ns)) (λ s f a b. omega arith)
+          ∙ sym (range-outside low high (flat (kept v) (n ∷ ns))
+          (Each-map (λ (s : Slot). (v.node n).fence ≤ s.key) (λ (s : Slot). low ≤ s.key → s.key ≤ high → ⊥) (flat (kept v) (n ∷ ns))
+          (λ s f a b. omega arith)
           (rising-from (v.node n).fence (flat (kept v) (n ∷ ns)) (row-rises v 0 n ns r))))
 
       here : in_range_of low high (flat (kept v) (leaves_up_to v high c (head_or 0 ns))) ≡ in_range_of low high (flat (kept v) ns)
-          → (v.node n).fence ≤ high → in_range_of low high (flat (kept v) (leaves_up_to v high (suc c) n)) ≡ in_range_of low high (flat (kept v) (n ∷ ns))
+          → (v.node n).fence ≤ high → in_range_of low high (flat (kept v) (leaves_up_to v high (suc c) n))
+          ≡ in_range_of low high (flat (kept v) (n ∷ ns))
       here ih h =
-          ap (λ (ms : List ℕ). in_range_of low high (flat (kept v) ms)) (up-goes c n (not-zero v n r.at.0.range) h ∙ ap (λ (m : ℕ). n ∷ leaves_up_to v high c m) ((linked-cons v n ns 0).0 r.chain).0)
-          ∙ range-append low high (kept v n) (flat (kept v) (leaves_up_to v high c (head_or 0 ns))) ∙ ap (λ (ss : List Slot). in_range_of low high (kept v n) ++ ss) ih ∙ sym (range-append low high (kept v n) (flat (kept v) ns))
+          ap (λ (ms : List ℕ). in_range_of low high (flat (kept v) ms))
+          (up-goes c n (not-zero v n r.at.0.range) h ∙ ap (λ (m : ℕ). n ∷ leaves_up_to v high c m) ((linked-cons v n ns 0).0 r.chain).0)
+          ∙ range-append low high (kept v n) (flat (kept v) (leaves_up_to v high c (head_or 0 ns)))
+          ∙ ap (λ (ss : List Slot). in_range_of low high (kept v n) ++ ss) ih
+          ∙ sym (range-append low high (kept v n) (flat (kept v) ns))
 
 -- ---- the pairs in a range are those of the leaves from the one for the lowest key on
 
@@ -83,12 +84,17 @@ pages-map v low high o =
     let earlier = flat (kept v) p.left in
     let later = flat (kept v) (x ∷ p.right) in
     let f = u.covers.fence in
-    let none : in_range_of low high earlier ≡ [] = range-outside low high earlier (Each-map (λ (s : Slot). s.key < (v.node x).fence) (λ (s : Slot). low ≤ s.key → s.key ≤ high → ⊥) earlier (λ s k l u. omega arith) p.low) in
+    let none : in_range_of low high earlier ≡ [] =
+    range-outside low high earlier
+    (Each-map (λ (s : Slot). s.key < (v.node x).fence) (λ (s : Slot). low ≤ s.key → s.key ≤ high → ⊥) earlier
+    (λ s k l u. omega arith) p.low) in
     row-pages v low high (x ∷ p.right) v.nodes row (row-few v 0 (x ∷ p.right) row)
-    ∙ sym (ap (in_range_of low high) p.parts ∙ range-append low high earlier later ∙ ap (λ (ss : List Slot). ss ++ in_range_of low high later) none)
+    ∙ sym (ap (in_range_of low high) p.parts ∙ range-append low high earlier later
+    ∙ ap (λ (ss : List Slot). ss ++ in_range_of low high later) none)
 
 -- on a settled table
-pub page-same : (n : ℕ) (t : Words) → no_collection n t ≡ false → settled t ≡ true → (low high : ℕ) → page_of n t low high ≡ in_range_of low high (map_of n t)
+pub page-same : (n : ℕ) (t : Words) → no_collection n t ≡ false → settled t ≡ true → (low high : ℕ) → page_of n t low high
+    ≡ in_range_of low high (map_of n t)
 unfolding page_of
 page-same n t h s low high = pages-map (view_of n t) low high (tree n t h s).left.orderly
 
@@ -102,7 +108,13 @@ module _ (ws t : Words) (c : Current ws t) (n low high : ℕ) (out : Words) wher
     where
       go : (b : Bool) → no_collection n t ≡ b → quick_list_number n ws t low ≡ list_number n t
       go true e = rw (sound-head t snd, e)
-      go false e = rw (sound-head t snd, e, eq-eqb (length ws) (summary_words (nodes t)) c.long, way-ok n t e c.settled (marks_in (nodes t) ws) (marks-true ws t c) low, snd)
+      go false e = rw (
+        sound-head t snd,
+        e,
+        eq-eqb (length ws) (summary_words (nodes t)) c.long,
+        way-ok n t e c.settled (marks_in (nodes t) ws) (marks-true ws t c) low,
+        snd,
+      )
 
   number-there : no_collection n t ≡ false → list_number n t ≡ 0
   unfolding list_number
@@ -117,14 +129,18 @@ module _ (ws t : Words) (c : Current ws t) (n low high : ℕ) (out : Words) wher
   unfolding quick_listed list
   quick-listed = rw list-number (go (no_collection n t) refl)
     where
-      go : (b : Bool) → no_collection n t ≡ b → unless_refused (list_number n t) (listed (page_of n t low high) (length out)) (refused_with (list_number n t)) ≡ list n t low high out
+      go : (b : Bool) → no_collection n t ≡ b
+          → unless_refused (list_number n t) (listed (page_of n t low high) (length out))
+          (refused_with (list_number n t)) ≡ list n t low high out
       go true e = rw (number-lacks e)
       go false e = rw (number-there e, page-same n t e c.settled low high)
 
+  -- with a true summary a quick listing leaves the same words as a plain one
   pub quick-list-out : quick_list_out n ws t low high out ≡ list_out n t low high out
   unfolding quick_list_out list_out
   quick-list-out = rw list-number (go (no_collection n t) refl)
     where
-      go : (b : Bool) → no_collection n t ≡ b → unless_refused (list_number n t) (listed_words (page_of n t low high) out) out ≡ list_out n t low high out
+      go : (b : Bool) → no_collection n t ≡ b → unless_refused (list_number n t) (listed_words (page_of n t low high) out) out
+          ≡ list_out n t low high out
       go true e = rw (number-lacks e)
       go false e = rw (number-there e, page-same n t e c.settled low high)

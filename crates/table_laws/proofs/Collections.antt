@@ -1,9 +1,6 @@
 -- The collections that a table has: 1, and 2 where word 3 is not 0.
-use mathlib.Core.Path.{◌≡◌, sym}
-use mathlib.Core.Bool.{false, false≢true}
-use mathlib.Core.Logic.{◌≢◌, ◌⊎◌, inl, inr}
-use Prim.Native.Nat.{ℕ}
-use borrow.Author.Tests.{eq-eqb, ne_eqb}
+use Rattle.std.proofs.Common.{◌≡◌, ℕ, false, ◌≢◌, ◌⊎◌, sym, inl, inr, eq-eqb, ne_eqb}
+use mathlib.Core.Bool.{false≢true}
 use Rattle.model.specs.Table.{Words, at, no_collection}
 use Rattle.list_laws.proofs.Tools.{same-or-not}
 

@@ -1,9 +1,5 @@
 -- A node's slot words as slots, one by one.
-use mathlib.Core.Path.{◌≡◌, refl}
-use mathlib.Core.List.{[], ◌∷◌}
-use Prim.Native.Nat.{ℕ, zero, suc, ◌+◌, ◌*◌, ◌<◌, ◌≤◌}
-use native.Mathlib.Omega.{arith}
-use lib.ListN.{length, drop}
+use Rattle.std.proofs.Common.{◌≡◌, ℕ, zero, suc, ◌+◌, ◌*◌, ◌<◌, ◌≤◌, [], ◌∷◌, length, drop, refl, arith}
 use Rattle.model.specs.Table.{Words, at}
 use Rattle.model.specs.Slots.{slot, slots_of}
 use Rattle.list_laws.proofs.Tools.{double-suc}
@@ -13,7 +9,8 @@ double-one : (i : ℕ) → 2 * suc i + 1 ≡ suc (suc (2 * i + 1))
 double-one i = omega arith
 
 -- the slots from slot i on begin with words 2 i and 2 i + 1
-pub slots-cons : (ws : Words) (i : ℕ) → 2 * i + 1 < length ws → drop i (slots_of ws) ≡ slot (at ws (2 * i)) (at ws (2 * i + 1)) ∷ drop (suc i) (slots_of ws)
+pub slots-cons : (ws : Words) (i : ℕ) → 2 * i + 1 < length ws → drop i (slots_of ws) ≡ slot (at ws (2 * i)) (at ws (2 * i + 1))
+    ∷ drop (suc i) (slots_of ws)
 unfolding slots_of
 slots-cons [] i h = absurd (omega arith)
 slots-cons (k ∷ []) i h = absurd (omega arith)

@@ -1,20 +1,16 @@
 -- Words that are 0: parts of a list of zeros, and the test that all words of a list are 0.
-use mathlib.Core.Bool.{true}
-use mathlib.Core.Path.{◌≡◌, refl}
-use mathlib.Core.Logic.{◌↔◌}
-use mathlib.Core.List.{[], ◌∷◌}
-use Prim.Native.Nat.{ℕ, zero, suc, ◌+◌, ◌-◌, ◌≤◌, ◌<◌}
+use Rattle.std.proofs.Common.{◌≡◌, ℕ, zero, suc, ◌+◌, ◌-◌, ◌<◌, ◌≤◌, true, ◌↔◌, [], ◌∷◌, take, drop, refl, arith, length-take, get_or-drop}
+use Rattle.std.proofs.Common.{get_or-take}
 use native.Mathlib.Decide.{dec_lt}
-use native.Mathlib.Omega.{arith}
-use lib.ListN.{take, drop, length-take, get_or-eq_default}
-use lib.Seq.{get_or-take, get_or-drop}
+use lib.ListN.{get_or-eq_default}
 use Rattle.model.specs.Table.{Words, at, all_zero}
 use Rattle.list_laws.proofs.Tools.{decode}
 
 pub all-zero-iff : (ws : Words) → (all_zero ws ≡ true) ↔ ((i : ℕ) → at ws i ≡ 0)
 unfolding all_zero
 all-zero-iff [] = (λ e i. refl, λ z. refl)
-all-zero-iff (w ∷ ws) = (λ e. let u = simp decode at e in each u.0 ((all-zero-iff ws).0 u.1), λ z. simp decode (z 0, (all-zero-iff ws).1 (λ i. z (suc i))))
+all-zero-iff (w ∷ ws) =
+    (λ e. let u = simp decode at e in each u.0 ((all-zero-iff ws).0 u.1), λ z. simp decode (z 0, (all-zero-iff ws).1 (λ i. z (suc i))))
   where
     each : w ≡ 0 → ((i : ℕ) → at ws i ≡ 0) → (i : ℕ) → at (w ∷ ws) i ≡ 0
     each h z zero = h

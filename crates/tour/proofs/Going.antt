@@ -1,14 +1,7 @@
 -- The state of the loop against the definition.
-use mathlib.Core.Path.{◌≡◌, refl, ap, sym, subst, ◌∙◌}
-use mathlib.Core.Bool.{Bool, true, false, not, ◌&&◌}
-use mathlib.Core.Logic.{⊎_elim}
-use mathlib.Core.List.{List, [], ◌∷◌, ◌++◌, append-nil}
-use Prim.Native.Nat.{ℕ, zero, suc, ◌+◌, ◌-◌, ◌*◌, ◌≤◌, ◌<◌}
-use native.Mathlib.Omega.{arith}
-use lib.Dec.{eqb, leb}
-use lib.ListN.{length, get_or, set, take, length-set, length-append}
-use lib.Seq.{get_or-set_same, get_or-set_other, take-suc-set, length-take-le}
-use borrow.Author.Tests.{eq-eqb, ne_eqb}
+use Rattle.std.proofs.Common.{◌≡◌, ℕ, zero, suc, ◌+◌, ◌-◌, ◌*◌, ◌<◌, ◌≤◌, Bool, true, false, not, ◌&&◌, eqb, leb, List, [], ◌∷◌, ◌++◌}
+use Rattle.std.proofs.Common.{length, get_or, take, set, Some, None, Option, sym, refl, ap, ◌∙◌, subst, ⊎_elim, append-nil, arith}
+use Rattle.std.proofs.Common.{length-append, length-set, length-take-le, get_or-set_other, get_or-set_same, take-suc-set, eq-eqb, ne_eqb}
 use Rattle.model.specs.Table.{Words, in_range, nodes}
 use Rattle.model.specs.Slots.{node_view}
 use Rattle.model.specs.Reached.{flat}
@@ -25,7 +18,6 @@ use Rattle.tour_laws.proofs.Remaining.{remaining, remaining-none, remaining-no, 
 use Rattle.tour_laws.proofs.Recursion.{remaining-start}
 use Rattle.tour.specs.declared.Met.{Met}
 use Rattle.tour.specs.declared.Sight.{Sight}
-use Rattle.std.proofs.Common.{Option, None, Some}
 use Rattle.tour.specs.Loop.{Looked, Marked, met_by, unmarked}
 
 -- the stack, the top first
@@ -56,7 +48,8 @@ pub same-may : (t ms : Words) (es : List ℕ) (i l : ℕ) → Marked t ms es →
 unfolding unmarked may_enter
 same-may t ms es i l m = go (in_range (nodes t) i) refl
   where
-    go : (b : Bool) → in_range (nodes t) i ≡ b → (b && (eqb (node_view t i).level l && not (has ms i))) ≡ (b && (eqb (node_view t i).level l && not (elem i es)))
+    go : (b : Bool) → in_range (nodes t) i ≡ b → (b && (eqb (node_view t i).level l && not (has ms i)))
+        ≡ (b && (eqb (node_view t i).level l && not (elem i es)))
     go true c = ap (λ (y : Bool). eqb (node_view t i).level l && not y) (m i c)
     go false c = refl
 
@@ -64,7 +57,9 @@ same-may t ms es i l m = go (in_range (nodes t) i) refl
 marked-last : (t ms : Words) (es : List ℕ) (i : ℕ) → i < 64 * length ms → Marked t ms es → Marked t (put ms i) (es ++ i ∷ [])
 unfolding elem
 marked-last t ms es i l m n h =
-    let same : has (put ms i) n ≡ elem n (i ∷ es) = ⊎_elim (λ e. let q = ap (has (put ms i)) e ∙ has-put-same ms i l in rw (q, eq-eqb n i e)) (λ e. rw (has-put-other ms i n l e, ne_eqb n i e) (m n h)) (same-or-not n i) in
+    let same : has (put ms i) n ≡ elem n (i ∷ es) =
+    ⊎_elim (λ e. let q = ap (has (put ms i)) e ∙ has-put-same ms i l in rw (q, eq-eqb n i e))
+    (λ e. rw (has-put-other ms i n l e, ne_eqb n i e) (m n h)) (same-or-not n i) in
     same ∙ sym (elem-last n i es)
 
 -- ---- words set past the part in use
@@ -72,22 +67,28 @@ marked-last t ms es i l m n h =
 frames-way : (st ws : Words) (d i x : ℕ) → d ≤ i → frames_to st (set ws i x) d ≡ frames_to st ws d
 unfolding frames_to
 frames-way st ws zero i x h = refl
-frames-way st ws (suc d) i x h = rw (get_or-set_other ws i d x 0 (λ z. omega arith)) (ap (λ (l : List Frame). frame (get_or st d 0) (get_or ws d 0) ∷ l) (frames-way st ws d i x (omega arith)))
+frames-way st ws (suc d) i x h =
+    rw (get_or-set_other ws i d x 0 (λ z. omega arith))
+    (ap (λ (l : List Frame). frame (get_or st d 0) (get_or ws d 0) ∷ l) (frames-way st ws d i x (omega arith)))
 
 frames-stack : (st ws : Words) (d i x : ℕ) → d ≤ i → frames_to (set st i x) ws d ≡ frames_to st ws d
 unfolding frames_to
 frames-stack st ws zero i x h = refl
-frames-stack st ws (suc d) i x h = rw (get_or-set_other st i d x 0 (λ z. omega arith)) (ap (λ (l : List Frame). frame (get_or st d 0) (get_or ws d 0) ∷ l) (frames-stack st ws d i x (omega arith)))
+frames-stack st ws (suc d) i x h =
+    rw (get_or-set_other st i d x 0 (λ z. omega arith))
+    (ap (λ (l : List Frame). frame (get_or st d 0) (get_or ws d 0) ∷ l) (frames-stack st ws d i x (omega arith)))
 
 go-set : (ws : Words) (d i x : ℕ) → d ≤ i → to_go (set ws i x) d ≡ to_go ws d
 unfolding to_go
 go-set ws zero i x h = refl
-go-set ws (suc d) i x h = rw (get_or-set_other ws i d x 0 (λ z. omega arith)) (ap (λ (m : ℕ). suc (14 - get_or ws d 0) + m) (go-set ws d i x (omega arith)))
+go-set ws (suc d) i x h =
+    rw (get_or-set_other ws i d x 0 (λ z. omega arith)) (ap (λ (m : ℕ). suc (14 - get_or ws d 0) + m) (go-set ws d i x (omega arith)))
 
 -- the top's next way is set
 top-set : (st ws : Words) (d z : ℕ) → d < length ws → frames_to st (set ws d z) (suc d) ≡ frame (get_or st d 0) z ∷ frames_to st ws d
 unfolding frames_to
-top-set st ws d z h = rw (get_or-set_same ws d z 0 h) (ap (λ (l : List Frame). frame (get_or st d 0) z ∷ l) (frames-way st ws d d z (omega arith)))
+top-set st ws d z h =
+    rw (get_or-set_same ws d z 0 h) (ap (λ (l : List Frame). frame (get_or st d 0) z ∷ l) (frames-way st ws d d z (omega arith)))
 
 ways-over : (t : Words) (n w : ℕ) → 13 < w → ways_from t n w ≡ []
 unfolding ways_from
@@ -111,7 +112,8 @@ module _ (t : Words) (whole : List ℕ) (ms st ws os : Words) (count d : ℕ) (s
   -- the top is done
   pub going-pop : 13 < get_or ws d 0 → Going t whole ms st ws os count d
   going-pop h = record {
-    rest = ap (λ (l : List Meeting). es ++ remaining t l es) (sym (opened ∙ ap (λ (l : List Meeting). l ++ later) (ways-over t (get_or st d 0) (get_or ws d 0) h))) ∙ s.rest;
+    rest = ap (λ (l : List Meeting). es ++ remaining t l es)
+        (sym (opened ∙ ap (λ (l : List Meeting). l ++ later) (ways-over t (get_or st d 0) (get_or ws d 0) h))) ∙ s.rest;
     numbers = s.numbers;
     inside = s.inside;
     deep = omega (arith, s.deep);
@@ -135,7 +137,9 @@ module _ (t : Words) (whole : List ℕ) (ms st ws os : Words) (count d : ℕ) (s
     pub going-on : r.met ≡ None → Going t whole ms st (set ws d r.way) os count (suc d)
     going-on m = record {
       rest = ap (λ (l : List Meeting). es ++ remaining t l es)
-          (set-todo ∙ sym (opened ∙ ap (λ (l : List Meeting). l ++ later) (k.0 ∙ ap (λ (o : Option Met). met_by o ++ ways_from t (get_or st d 0) r.way) m))) ∙ s.rest;
+          (set-todo ∙ sym (opened
+          ∙ ap (λ (l : List Meeting). l ++ later) (k.0 ∙ ap (λ (o : Option Met). met_by o ++ ways_from t (get_or st d 0) r.way) m)))
+          ∙ s.rest;
       numbers = s.numbers;
       inside = s.inside;
       deep = s.deep;
@@ -156,7 +160,9 @@ module _ (t : Words) (whole : List ℕ) (ms st ws os : Words) (count d : ℕ) (s
       pub going-refused : unmarked t ms y.node y.level ≡ false → Going t whole ms st (set ws d r.way) os count (suc d)
       going-refused c = record {
         rest = ap (λ (l : List Meeting). es ++ remaining t l es) set-todo
-            ∙ ap (λ (l : List ℕ). es ++ l) (sym (ap (λ (l : List Meeting). remaining t l es) met ∙ remaining-no t x (ways_from t (get_or st d 0) r.way ++ later) es (sym same ∙ c)))
+            ∙ ap (λ (l : List ℕ). es ++ l)
+            (sym (ap (λ (l : List Meeting). remaining t l es) met
+            ∙ remaining-no t x (ways_from t (get_or st d 0) r.way ++ later) es (sym same ∙ c)))
             ∙ s.rest;
         numbers = s.numbers;
         inside = s.inside;
@@ -175,25 +181,34 @@ module _ (t : Words) (whole : List ℕ) (ms st ws os : Words) (count d : ℕ) (s
         more = more-last t x es may s.numbers
 
         pub room : count < nodes t
-        room = omega (arith, length-take-le count os s.inside, length-append es (y.node ∷ []), pigeonhole (nodes t) (es ++ y.node ∷ []) more.apart more.range)
+        room = omega (
+          arith,
+          length-take-le count os s.inside,
+          length-append es (y.node ∷ []),
+          pigeonhole (nodes t) (es ++ y.node ∷ []) more.apart more.range,
+        )
 
         module _ (lm : y.node < 64 * length ms) (ls : suc d < length st) (lv : suc d < length ws) (lo : count < length os) where
           new-es : take (suc count) (set os count y.node) ≡ es ++ y.node ∷ []
           new-es = take-suc-set os count y.node lo
 
-          new-frames : frames_to (set st (suc d) y.node) (set (set ws d r.way) (suc d) 0) (suc (suc d)) ≡ frame y.node 0 ∷ frame (get_or st d 0) r.way ∷ frames_to st ws d
+          new-frames : frames_to (set st (suc d) y.node) (set (set ws d r.way) (suc d) 0) (suc (suc d)) ≡ frame y.node 0
+              ∷ frame (get_or st d 0) r.way ∷ frames_to st ws d
           new-frames =
               let v = set ws d r.way in
               let lv' : suc d < length v = rw (length-set ws d r.way) lv in
               top-set (set st (suc d) y.node) v (suc d) 0 lv'
               ∙ ap (λ (n : ℕ). frame n 0 ∷ frames_to (set st (suc d) y.node) v (suc d)) (get_or-set_same st (suc d) y.node 0 ls)
-              ∙ ap (λ (l : List Frame). frame y.node 0 ∷ l) (frames-stack st v (suc d) (suc d) y.node (omega arith) ∙ top-set st ws d r.way lw)
+              ∙ ap (λ (l : List Frame). frame y.node 0 ∷ l)
+              (frames-stack st v (suc d) (suc d) y.node (omega arith) ∙ top-set st ws d r.way lw)
 
           -- it is entered
-          pub going-enter : Going t whole (put ms y.node) (set st (suc d) y.node) (set (set ws d r.way) (suc d) 0) (set os count y.node) (suc count) (suc (suc d))
+          pub going-enter : Going t whole (put ms y.node) (set st (suc d) y.node) (set (set ws d r.way) (suc d) 0) (set os count y.node)
+              (suc count) (suc (suc d))
           unfolding todo_of flat ways_from
           going-enter = record {
-            rest = ap (λ (l : List ℕ). l ++ remaining t (todo_of t (frames_to (set st (suc d) y.node) (set (set ws d r.way) (suc d) 0) (suc (suc d)))) l) new-es
+            rest = ap (λ (l : List ℕ). l
+                ++ remaining t (todo_of t (frames_to (set st (suc d) y.node) (set (set ws d r.way) (suc d) 0) (suc (suc d)))) l) new-es
                 ∙ ap (λ (l : List Frame). (es ++ y.node ∷ []) ++ remaining t (todo_of t l) (es ++ y.node ∷ [])) new-frames
                 ∙ remaining-enter t x (ways_from t (get_or st d 0) r.way ++ later) es s.numbers may
                 ∙ ap (λ (l : List Meeting). es ++ remaining t l es) (sym met)
@@ -228,14 +243,18 @@ module _ (t : Words) (r : ℕ) (os : Words) (before : ℕ) where
 
     -- the root may not be entered
     pub none-more : may_enter t (meet r (node_view t r).level) earlier ≡ false → earlier ≡ all
-    none-more c = sym (whole-is ∙ ap (λ (l : List ℕ). earlier ++ l) (remaining-no t (meet r (node_view t r).level) [] earlier c ∙ remaining-none t earlier) ∙ append-nil earlier)
+    none-more c = sym (whole-is
+        ∙ ap (λ (l : List ℕ). earlier ++ l)
+        (remaining-no t (meet r (node_view t r).level) [] earlier c ∙ remaining-none t earlier) ∙ append-nil earlier)
 
-    pub going-start : (ms st ws : Words) → may_enter t (meet r (node_view t r).level) earlier ≡ true → Marked t ms earlier → r < 64 * length ms → 0 < length st → 0 < length ws → before < length os
+    pub going-start : (ms st ws : Words) → may_enter t (meet r (node_view t r).level) earlier ≡ true → Marked t ms earlier
+        → r < 64 * length ms → 0 < length st → 0 < length ws → before < length os
         → Going t all (put ms r) (set st 0 r) (set ws 0 0) (set os before r) (suc before) 1
     going-start ms st ws may m lm ls lw lo =
         let x = meet r (node_view t r).level in
         let new-es : take (suc before) (set os before r) ≡ earlier ++ r ∷ [] = take-suc-set os before r lo in
-        let new-frames : frames_to (set st 0 r) (set ws 0 0) 1 ≡ frame r 0 ∷ [] = unfold frames_to in rw (get_or-set_same st 0 r 0 ls, get_or-set_same ws 0 0 0 lw) in
+        let new-frames : frames_to (set st 0 r) (set ws 0 0) 1 ≡ frame r 0 ∷ [] =
+        unfold frames_to in rw (get_or-set_same st 0 r 0 ls, get_or-set_same ws 0 0 0 lw) in
         let todo : todo_of t (frame r 0 ∷ []) ≡ meetings t r ++ [] = unfold todo_of flat ways_from in refl in
         record {
           rest = ap (λ (l : List ℕ). l ++ remaining t (todo_of t (frames_to (set st 0 r) (set ws 0 0) 1)) l) new-es

@@ -1,13 +1,7 @@
--- The call: from any words that it accepts a settled table of the same N with just the kept pairs; a sound table drops nothing and keeps its maps.
-use mathlib.Core.Path.{◌≡◌, refl, ◌∙◌}
-use mathlib.Core.Bool.{Bool, true, false, not}
-use mathlib.Core.Logic.{◌↔◌}
-use mathlib.Core.List.{[], ◌∷◌}
-use Prim.Native.Nat.{ℕ, ◌*◌, ◌≤◌}
-use native.Mathlib.Omega.{arith}
-use lib.Dec.{eqb, ltb}
-use lib.ListN.{length}
-use borrow.Author.Tests.{eq-eqb, le-ltb, ltb-false}
+-- The call: from any words that it accepts a settled table of the same N with just the kept pairs; a sound table drops nothing and keeps
+-- its maps.
+use Rattle.std.proofs.Common.{◌≡◌, ℕ, ◌*◌, ◌≤◌, Bool, true, false, not, eqb, ltb, ◌↔◌, [], ◌∷◌, length, refl, ◌∙◌, arith, ltb-false, le-ltb}
+use Rattle.std.proofs.Common.{eq-eqb}
 use Rattle.std.specs.Prelude.{Ok}
 use Rattle.model.specs.Table.{Words, nodes, header_ok}
 use Rattle.model.specs.Reached.{maps_of}
@@ -29,8 +23,10 @@ pub record Passes (t : Words) (out report : ℕ) : Type 0 where
 
 pub passes-iff : (t : Words) (out report : ℕ) → (salvage_number t out report ≡ 0) ↔ Passes t out report
 unfolding salvage_number
-passes-iff t out report =
-    (λ e. go (header_ok t) (eqb out (length t)) (ltb report (36 * nodes t)) (outgrows t) refl refl refl refl e, λ u. rw (u.header, u.long, u.roomy, u.fits))
+passes-iff t out report = (
+  λ e. go (header_ok t) (eqb out (length t)) (ltb report (36 * nodes t)) (outgrows t) refl refl refl refl e,
+  λ u. rw (u.header, u.long, u.roomy, u.fits),
+)
   where
     go : (w x y z : Bool) → header_ok t ≡ w → eqb out (length t) ≡ x → ltb report (36 * nodes t) ≡ y → outgrows t ≡ z
         → first_number (test (not w) 2 ∷ test (not x) 15 ∷ test y 16 ∷ test z 10 ∷ []) ≡ 0 → Passes t out report
@@ -70,7 +66,12 @@ module _ (t out : Words) (report : ℕ) (s : sound t ≡ true) (l : length out �
   sound-passes : salvage_number t (length out) report ≡ 0
   sound-passes =
       (passes-iff t (length out) report).1
-      (record { header = sound-head t s; long = eq-eqb (length out) (length t) l; roomy = le-ltb report (36 * nodes t) r; fits = unfold outgrows in le-ltb (nodes t) (packed_both (kept_maps t)) (sound-fits t s) })
+      (record {
+        header = sound-head t s;
+        long = eq-eqb (length out) (length t) l;
+        roomy = le-ltb report (36 * nodes t) r;
+        fits = unfold outgrows in le-ltb (nodes t) (packed_both (kept_maps t)) (sound-fits t s);
+      })
 
   -- A sound table drops nothing.
   pub sound-drops-none : salvage t (length out) report ≡ Ok 0

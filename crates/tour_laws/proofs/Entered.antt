@@ -1,14 +1,8 @@
 -- In a sound tree the tour enters the left edge, then the leaves from left to right, and after them only inner nodes.
-use mathlib.Core.Path.{◌≡◌, refl, ap, sym, subst, ◌∙◌}
-use mathlib.Core.Bool.{Bool, true, false}
-use mathlib.Core.Logic.{◌≢◌, ◌⊎◌, inl, inr, ⊎_elim}
+use Rattle.std.proofs.Common.{◌≡◌, ℕ, zero, suc, ◌+◌, ◌*◌, ◌≤◌, Bool, true, false, eqb, ◌≢◌, ◌⊎◌, List, [], ◌∷◌, ◌++◌, length, sym, refl}
+use Rattle.std.proofs.Common.{ap, ◌∙◌, subst, inl, inr, ⊎_elim, arith, eq-eqb, ne_eqb}
 use mathlib.Core.List.Memᴰ
-use mathlib.Core.List.{List, [], ◌∷◌, ◌++◌, Memᴰ}
-use Prim.Native.Nat.{ℕ, zero, suc, ◌+◌, ◌*◌, ◌≤◌}
-use native.Mathlib.Omega.{arith}
-use lib.Dec.{eqb}
-use lib.ListN.{length}
-use borrow.Author.Tests.{eq-eqb, ne_eqb}
+use mathlib.Core.List.{Memᴰ}
 use Rattle.model.specs.Table.{Words, in_range, nodes}
 use Rattle.model.specs.Slots.{View, node_view, view_from, height}
 use Rattle.model.specs.Reached.{filter, flat, head_or, children, leaves_from, reached, leaves}
@@ -25,7 +19,8 @@ use Rattle.two_laws.proofs.LevelsTwo.{row-few}
 use Rattle.model.specs.Salvage.{Meeting, meet, meetings, may_enter, start}
 use Rattle.tour_laws.specs.Visits.{order, toured_from}
 use Rattle.tour_laws.proofs.Steps.{order-yes, order-no, may-iff}
-use Rattle.tour_laws.proofs.Meets.{Known, meetings-leaf, meetings-inner, further_met, further-known, inner-known, reached-known, left-reached}
+use Rattle.tour_laws.proofs.Meets.{Known, meetings-leaf, meetings-inner, further_met, further-known, inner-known, reached-known}
+use Rattle.tour_laws.proofs.Meets.{left-reached}
 
 -- the leaves among nodes
 unfoldable pub leaves_in : Words → List ℕ → List ℕ
@@ -47,12 +42,16 @@ module _ (t : Words) (r : ℕ) (o : Orderly (view_from t r)) where
   v = view_from t r
 
   -- only reached nodes are entered
-  known-reached : (f : ℕ) (todo : List Meeting) (es : List ℕ) → Each (Known v) todo → Each (λ (m : ℕ). Memᴰ m (reached v)) (order t f todo es)
+  known-reached : (f : ℕ) (todo : List Meeting) (es : List ℕ) → Each (Known v) todo
+      → Each (λ (m : ℕ). Memᴰ m (reached v)) (order t f todo es)
   known-reached zero todo es k = unfold order in tt
   known-reached (suc f) [] es k = unfold order in tt
-  known-reached (suc f) (x ∷ todo) es k = go (may_enter t x es) refl (known-reached f (meetings t x.node ++ todo) (x.node ∷ es)) (known-reached f todo es k.1)
+  known-reached (suc f) (x ∷ todo) es k =
+      go (may_enter t x es) refl (known-reached f (meetings t x.node ++ todo) (x.node ∷ es)) (known-reached f todo es k.1)
     where
-      go : (b : Bool) → may_enter t x es ≡ b → (Each (Known v) (meetings t x.node ++ todo) → Each (λ (m : ℕ). Memᴰ m (reached v)) (order t f (meetings t x.node ++ todo) (x.node ∷ es)))
+      go : (b : Bool) → may_enter t x es ≡ b
+          → (Each (Known v) (meetings t x.node ++ todo)
+          → Each (λ (m : ℕ). Memᴰ m (reached v)) (order t f (meetings t x.node ++ todo) (x.node ∷ es)))
           → Each (λ (m : ℕ). Memᴰ m (reached v)) (order t f todo es) → Each (λ (m : ℕ). Memᴰ m (reached v)) (order t (suc f) (x ∷ todo) es)
       go true c p q =
           let m = known-not-zero v x ((may-iff t x es).0 c).0 k.0 in
@@ -63,7 +62,8 @@ module _ (t : Words) (r : ℕ) (o : Orderly (view_from t r)) where
   abbrev Rest : ℕ → List Meeting → List ℕ → Type 0
   Rest f todo es = Each (Known v) todo → ((m : ℕ) → Memᴰ m (leaves v) → Memᴰ m es) → leaves_in t (order t f todo es) ≡ []
 
-  rest-step : (f : ℕ) (x : Meeting) (todo : List Meeting) (es : List ℕ) → Rest f (meetings t x.node ++ todo) (x.node ∷ es) → Rest f todo es → Rest (suc f) (x ∷ todo) es
+  rest-step : (f : ℕ) (x : Meeting) (todo : List Meeting) (es : List ℕ) → Rest f (meetings t x.node ++ todo) (x.node ∷ es) → Rest f todo es
+      → Rest (suc f) (x ∷ todo) es
   rest-step f x todo es p q k a = go (may_enter t x es) refl
     where
       go : (b : Bool) → may_enter t x es ≡ b → leaves_in t (order t (suc f) (x ∷ todo) es) ≡ []
@@ -73,7 +73,8 @@ module _ (t : Words) (r : ℕ) (o : Orderly (view_from t r)) where
           let m = known-not-zero v x u.0 k.0 in
           by-level v (λ (n : ℕ). leaves_in t (order t (suc f) (x ∷ todo) es) ≡ []) x.node
           (λ e. absurd ((elem-none x.node es).0 u.2 (a x.node ((mem-leaves v x.node o).1 (m, e)))))
-          (λ d e. ap (leaves_in t) (order-yes t f x todo es c) ∙ inner-out t d x.node _ e ∙ p (Each-append (Known v) (meetings t x.node) todo (inner-known t r o d x.node e m) k.1) (λ j h. Memᴰ.tail (a j h)))
+          (λ d e. ap (leaves_in t) (order-yes t f x todo es c) ∙ inner-out t d x.node _ e
+          ∙ p (Each-append (Known v) (meetings t x.node) todo (inner-known t r o d x.node e m) k.1) (λ j h. Memᴰ.tail (a j h)))
 
   rest : (f : ℕ) (todo : List Meeting) (es : List ℕ) → Rest f todo es
   rest zero todo es k a = unfold order leaves_in filter in refl
@@ -81,14 +82,17 @@ module _ (t : Words) (r : ℕ) (o : Orderly (view_from t r)) where
   rest (suc f) (x ∷ todo) es k a = rest-step f x todo es (rest f (meetings t x.node ++ todo) (x.node ∷ es)) (rest f todo es) k a
 
   -- the chain of the leaves
-  enter-leaf : (f n : ℕ) (todo : List Meeting) (es : List ℕ) → At v 0 n → elem n es ≡ false → leaves_in t (order t (suc f) (meet n 0 ∷ todo) es) ≡ n ∷ leaves_in t (order t f (meet (v.node n).sibling 0 ∷ todo) (n ∷ es))
+  enter-leaf : (f n : ℕ) (todo : List Meeting) (es : List ℕ) → At v 0 n → elem n es ≡ false
+      → leaves_in t (order t (suc f) (meet n 0 ∷ todo) es) ≡ n ∷ leaves_in t (order t f (meet (v.node n).sibling 0 ∷ todo) (n ∷ es))
   enter-leaf f n todo es a z =
       ap (leaves_in t) (order-yes t f (meet n 0) todo es ((may-iff t (meet n 0) es).1 (a.range, a.level, z)))
       ∙ leaf-in t n _ a.level
       ∙ ap (λ (l : List Meeting). n ∷ leaves_in t (order t f (l ++ todo) (n ∷ es))) (meetings-leaf t n a.level)
 
-  along : (f n : ℕ) (ns : List ℕ) (todo : List Meeting) (es : List ℕ) → Row v 0 (n ∷ ns) → distinct (n ∷ ns) ≡ true → Each (λ (m : ℕ). elem m es ≡ false) (n ∷ ns)
-      → Each (Known v) todo → ((m : ℕ) → Memᴰ m (leaves v) → Memᴰ m (n ∷ ns) ⊎ Memᴰ m es) → length (n ∷ ns) ≤ f → leaves_in t (order t f (meet n 0 ∷ todo) es) ≡ n ∷ ns
+  along : (f n : ℕ) (ns : List ℕ) (todo : List Meeting) (es : List ℕ) → Row v 0 (n ∷ ns) → distinct (n ∷ ns) ≡ true
+      → Each (λ (m : ℕ). elem m es ≡ false) (n ∷ ns)
+      → Each (Known v) todo → ((m : ℕ) → Memᴰ m (leaves v) → Memᴰ m (n ∷ ns) ⊎ Memᴰ m es) → length (n ∷ ns) ≤ f
+      → leaves_in t (order t f (meet n 0 ∷ todo) es) ≡ n ∷ ns
   along zero n ns todo es r d z k a h = absurd (omega arith)
   along (suc f) n [] todo es r d z k a h =
       let s = ((linked-cons v n [] 0).0 r.chain).0 in
@@ -104,7 +108,8 @@ module _ (t : Words) (r : ℕ) (o : Orderly (view_from t r)) where
       enter-leaf f n todo es r.at.0 z.0
       ∙ ap (λ (c : ℕ). n ∷ leaves_in t (order t f (meet c 0 ∷ todo) (n ∷ es))) s
       ∙ ap (λ (l : List ℕ). n ∷ l) (along f m ms todo (n ∷ es) (row-tail v 0 n (m ∷ ms) r) u.1 fresh k
-      (λ j i. ⊎_elim (λ p. ⊎_elim (λ e. inr (Memᴰ.head e)) (λ q. inl q) (Memᴰ.cases_cons p)) (λ q. inr (Memᴰ.tail q)) (a j i)) (omega arith))
+      (λ j i. ⊎_elim (λ p. ⊎_elim (λ e. inr (Memᴰ.head e)) (λ q. inl q) (Memᴰ.cases_cons p)) (λ q. inr (Memᴰ.tail q)) (a j i))
+      (omega arith))
 
   -- no reached node of level d or below was entered
   abbrev Clear : ℕ → List ℕ → Type 0
@@ -114,7 +119,8 @@ module _ (t : Words) (r : ℕ) (o : Orderly (view_from t r)) where
   clear-next d n es e h j m l = (elem-cons j n es).1 ((λ q. omega (arith, l, e, ap (λ (x : ℕ). (v.node x).level) q)), h j m (omega arith))
 
   -- down the left edge
-  down : (d f n : ℕ) (ns : List ℕ) (todo : List Meeting) (es : List ℕ) → Level v d (n ∷ ns) → Memᴰ n (reached v) → leaves_from v d (n ∷ ns) ≡ leaves v
+  down : (d f n : ℕ) (ns : List ℕ) (todo : List Meeting) (es : List ℕ) → Level v d (n ∷ ns) → Memᴰ n (reached v)
+      → leaves_from v d (n ∷ ns) ≡ leaves v
       → Clear d es → Each (Known v) todo → d + length (leaves v) ≤ f → leaves_in t (order t f (meet n d ∷ todo) es) ≡ leaves v
   down zero f n ns todo es l m e h k b =
       let q : n ∷ ns ≡ leaves v = unfold leaves_from in e in
@@ -127,13 +133,16 @@ module _ (t : Words) (r : ℕ) (o : Orderly (view_from t r)) where
       let a = l.row.at.0 in
       let s : head_or 0 (flat (children v) (n ∷ ns)) ≡ (v.node n).left = head-children v d (n ∷ ns) l.row.at ∙ first-child v n l.some in
       let q : leaves_from v d (flat (children v) (n ∷ ns)) ≡ leaves v = unfold leaves_from in e in
-      ap (leaves_in t) (order-yes t f (meet n (suc d)) todo es ((may-iff t (meet n (suc d)) es).1 (a.range, a.level, h n m (omega (arith, a.level)))))
+      ap (leaves_in t) (order-yes t f (meet n (suc d)) todo es
+      ((may-iff t (meet n (suc d)) es).1 (a.range, a.level, h n m (omega (arith, a.level)))))
       ∙ inner-out t d n _ a.level
       ∙ ap (λ (x : List Meeting). leaves_in t (order t f (x ++ todo) (n ∷ es))) (meetings-inner t d n a.level)
-      ∙ go (flat (children v) (n ∷ ns)) (v.node n).left (level-lower v d (n ∷ ns) l) s q (left-reached t r o d n a.level m) (λ c cs. down d f c cs (further_met t d n ++ todo) (n ∷ es))
+      ∙ go (flat (children v) (n ∷ ns)) (v.node n).left (level-lower v d (n ∷ ns) l) s q (left-reached t r o d n a.level m)
+      (λ c cs. down d f c cs (further_met t d n ++ todo) (n ∷ es))
     where
       go : (ms : List ℕ) (c : ℕ) → Level v d ms → head_or 0 ms ≡ c → leaves_from v d ms ≡ leaves v → Memᴰ c (reached v)
-          → ((c : ℕ) (cs : List ℕ) → Level v d (c ∷ cs) → Memᴰ c (reached v) → leaves_from v d (c ∷ cs) ≡ leaves v → Clear d (n ∷ es) → Each (Known v) (further_met t d n ++ todo)
+          → ((c : ℕ) (cs : List ℕ) → Level v d (c ∷ cs) → Memᴰ c (reached v) → leaves_from v d (c ∷ cs) ≡ leaves v → Clear d (n ∷ es)
+          → Each (Known v) (further_met t d n ++ todo)
           → d + length (leaves v) ≤ f → leaves_in t (order t f (meet c d ∷ (further_met t d n ++ todo)) (n ∷ es)) ≡ leaves v)
           → leaves_in t (order t f (meet c d ∷ (further_met t d n ++ todo)) (n ∷ es)) ≡ leaves v
       go [] c w s q i ih = absurd (w.some refl)
@@ -154,7 +163,8 @@ module _ (t : Words) (r : ℕ) (o : Orderly (view_from t r)) where
   unfolding toured_from
   entered-leaves es h =
       let q = (range-iff v.nodes r).0 o.top.range in
-      down (height v) (2 + 14 * nodes t) r [] [] es (level-root v o.top o.good) root-known refl (λ j m l. h j m) tt (omega (arith, o.top.level, leaves-few, q.0, q.1))
+      down (height v) (2 + 14 * nodes t) r [] [] es (level-root v o.top o.good) root-known refl (λ j m l. h j m) tt
+      (omega (arith, o.top.level, leaves-few, q.0, q.1))
 
   -- Only nodes that the root reaches are entered.
   pub entered-reached : (es : List ℕ) → Each (λ (m : ℕ). Memᴰ m (reached v)) (toured_from t r es)

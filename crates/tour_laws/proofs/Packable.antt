@@ -1,12 +1,8 @@
--- What a salvage gathers can be packed: its keys rise, its recordings differ, recordings and classes are in range. So its table is settled, with
+-- What a salvage gathers can be packed: its keys rise, its recordings differ, recordings and classes are in range. So its table is settled,
+-- with
 -- just the kept pairs as its maps.
-use mathlib.Core.Path.{◌≡◌, refl, sym, subst, ◌∙◌}
-use mathlib.Core.Bool.{Bool, true, false}
-use mathlib.Core.List.{List, [], ◌∷◌, ◌++◌, map}
+use Rattle.std.proofs.Common.{◌≡◌, ℕ, zero, suc, ◌≤◌, Bool, true, false, eqb, List, [], ◌∷◌, ◌++◌, map, sym, refl, ◌∙◌, subst, arith}
 use mathlib.Core.Option.{some, none-ne-some, some-injective}
-use Prim.Native.Nat.{ℕ, zero, suc, ◌≤◌}
-use native.Mathlib.Omega.{arith}
-use lib.Dec.{eqb}
 use Rattle.model.specs.Table.{Words, at, nodes}
 use Rattle.model.specs.Slots.{Slot, slot, recording_of, recording}
 use Rattle.model.specs.Reached.{unless_lacking, maps_of}
@@ -14,7 +10,8 @@ use Rattle.model.specs.SoundTest.{all, elem, distinct, rising, recordings_ok, se
 use Rattle.model.specs.Refusals.{has_key, has_recording}
 use Rattle.model.specs.Ledger.{enter}
 use Rattle.model.specs.Packing.{packed_both, packed_table}
-use Rattle.model.specs.Salvage.{Placed, Gathered, out_of_range, reason_for, gather_slot, gather_slots, collected, gather_nodes, gathered_along, gathered, kept_maps}
+use Rattle.model.specs.Salvage.{Placed, Gathered, out_of_range, reason_for, gather_slot, gather_slots, collected, gather_nodes}
+use Rattle.model.specs.Salvage.{gathered_along, gathered, kept_maps}
 use Rattle.list_laws.proofs.Recordings.{recordings-middle}
 use Rattle.tree_laws.proofs.Rising.{lower, upper, lower-upper, lower-below, upper-above, rising-insert}
 use Rattle.change_laws.proofs.Pairs.{has-key-iff, has-recording, enter-at}
@@ -24,7 +21,8 @@ use Rattle.pack_laws.proofs.Enough.{sound-enough}
 use Rattle.tour_laws.proofs.Gathering.{range-iff, no-reason, slot-kept, slot-dropped}
 use Rattle.tour_laws.proofs.Sound.{tour-sound}
 
-module _ (k p : ℕ) (ps : List Slot) (f : Packable ps) (range : out_of_range p ≡ false) (key : has_key k ps ≡ false) (own : has_recording (recording_of p) ps ≡ false) where
+module _ (k p : ℕ) (ps : List Slot) (f : Packable ps) (range : out_of_range p ≡ false) (key : has_key k ps ≡ false)
+    (own : has_recording (recording_of p) ps ≡ false) where
   abbrev a : List Slot
   a = lower k ps
 
@@ -35,12 +33,17 @@ module _ (k p : ℕ) (ps : List Slot) (f : Packable ps) (range : out_of_range p 
   parts = lower-upper k ps
 
   enter-parts : enter k p ps ≡ a ++ slot k p ∷ b
-  enter-parts = subst (λ (l : List Slot). enter k p l ≡ a ++ slot k p ∷ b) (sym parts) (enter-at k p a b (lower-below k ps) (upper-above 0 k ps f.rise ((has-key-iff k ps).0 key)))
+  enter-parts = subst (λ (l : List Slot). enter k p l ≡ a ++ slot k p ∷ b) (sym parts)
+      (enter-at k p a b (lower-below k ps) (upper-above 0 k ps f.rise ((has-key-iff k ps).0 key)))
 
   enter-recordings : recordings_ok (a ++ slot k p ∷ b) ≡ true
   enter-recordings =
       let off : elem (recording_of p) (map recording ps) ≡ false = sym (has-recording (recording_of p) ps) ∙ own in
-      (recordings-middle (slot k p) a b).1 ((range-iff p).0 range, subst (λ (l : List Slot). elem (recording_of p) (map recording l) ≡ false) parts off, subst (λ (l : List Slot). recordings_ok l ≡ true) parts f.recordings)
+      (recordings-middle (slot k p) a b).1 (
+        (range-iff p).0 range,
+        subst (λ (l : List Slot). elem (recording_of p) (map recording l) ≡ false) parts off,
+        subst (λ (l : List Slot). recordings_ok l ≡ true) parts f.recordings,
+      )
 
   -- a pair with a new key and a new recording may enter
   enter-packable : Packable (enter k p ps)

@@ -1,11 +1,6 @@
 -- The request's recursion and the tour as a list of meetings enter the same nodes in the same order, from any words.
-use mathlib.Core.Path.{◌≡◌, refl, ap, sym, subst, ◌∙◌}
-use mathlib.Core.Bool.{Bool, true, false}
-use mathlib.Core.List.{List, [], ◌∷◌, ◌++◌, append-nil}
-use Prim.Native.Nat.{ℕ, zero, suc, ◌+◌, ◌*◌, ◌≤◌}
-use native.Mathlib.Omega.{arith}
-use lib.ListN.{length, drop, length-append}
-use lib.Seq.{drop_at}
+use Rattle.std.proofs.Common.{◌≡◌, ℕ, zero, suc, ◌+◌, ◌*◌, ◌≤◌, Bool, true, false, List, [], ◌∷◌, ◌++◌, length, drop, sym, refl, ap, ◌∙◌}
+use Rattle.std.proofs.Common.{subst, append-nil, arith, length-append, drop_at}
 use Rattle.model.specs.Table.{Words, at, nodes, root}
 use Rattle.model.specs.Salvage.{Meeting, meetings, may_enter, visit, start, entered_from, entered}
 use Rattle.tour_laws.specs.Visits.{toured_from}
@@ -13,11 +8,13 @@ use Rattle.tour_laws.proofs.Ends.{Numbers, no-numbers, need, need-yes, need-no, 
 use Rattle.tour_laws.proofs.Remaining.{remaining, remaining-none, remaining-no, remaining-enter, more-last, toured-start, none-toured}
 
 module _ (t : Words) where
-  visit-yes : (f : ℕ) (x : Meeting) (xs : List Meeting) (es : List ℕ) → may_enter t x es ≡ true → visit t (suc f) (x ∷ xs) es ≡ visit t f xs (visit t f (meetings t x.node) (es ++ x.node ∷ []))
+  visit-yes : (f : ℕ) (x : Meeting) (xs : List Meeting) (es : List ℕ) → may_enter t x es ≡ true → visit t (suc f) (x ∷ xs) es
+      ≡ visit t f xs (visit t f (meetings t x.node) (es ++ x.node ∷ []))
   unfolding visit
   visit-yes f x xs es c = rw (c, visit)
 
-  visit-no : (f : ℕ) (x : Meeting) (xs : List Meeting) (es : List ℕ) → may_enter t x es ≡ false → visit t (suc f) (x ∷ xs) es ≡ visit t f xs es
+  visit-no : (f : ℕ) (x : Meeting) (xs : List Meeting) (es : List ℕ) → may_enter t x es ≡ false
+      → visit t (suc f) (x ∷ xs) es ≡ visit t f xs es
   unfolding visit
   visit-no f x xs es c = rw (c, visit)
 
@@ -57,7 +54,9 @@ module _ (t : Words) where
   visits zero (x ∷ xs) es u h = absurd (omega (arith, need-no t x xs es))
   visits (suc f) (x ∷ xs) es u h = go (may_enter t x es) refl (visits f (meetings t x.node) (es ++ x.node ∷ [])) (λ fs. visits f xs fs)
     where
-      go : (b : Bool) → may_enter t x es ≡ b → (Numbers t (es ++ x.node ∷ []) → need t (meetings t x.node) (es ++ x.node ∷ []) ≤ f → Visited f (meetings t x.node) (es ++ x.node ∷ []))
+      go : (b : Bool) → may_enter t x es ≡ b
+          → (Numbers t (es ++ x.node ∷ []) → need t (meetings t x.node) (es ++ x.node ∷ []) ≤ f
+          → Visited f (meetings t x.node) (es ++ x.node ∷ []))
           → ((fs : List ℕ) → Numbers t fs → need t xs fs ≤ f → Visited f xs fs) → Visited (suc f) (x ∷ xs) es
       go true c p q =
           let w = need-yes t x xs es c u in
@@ -88,15 +87,19 @@ module _ (t : Words) (r : ℕ) (es : List ℕ) (u : Numbers t es) where
   root-visits f h =
       let enough : need t (start t r) es ≤ f = unfold need in omega arith in
       let v = visits t f (start t r) es u enough in
-      sym (ap (λ (l : List Meeting). final t l es) (sym (append-nil (start t r))) ∙ v.same [] ∙ ap (λ (l : List ℕ). visit t f (start t r) es ++ l) (remaining-none t (visit t f (start t r) es)) ∙ append-nil (visit t f (start t r) es))
+      sym (ap (λ (l : List Meeting). final t l es) (sym (append-nil (start t r))) ∙ v.same []
+      ∙ ap (λ (l : List ℕ). visit t f (start t r) es ++ l) (remaining-none t (visit t f (start t r) es))
+      ∙ append-nil (visit t f (start t r) es))
 
   -- More fuel changes nothing: the recursion ends by itself.
   pub more-fuel : (k : ℕ) → visit t (2 + 14 * nodes t + k) (start t r) es ≡ visit t (2 + 14 * nodes t) (start t r) es
   more-fuel k = root-visits (2 + 14 * nodes t + k) (omega arith) ∙ sym (root-visits (2 + 14 * nodes t) (omega arith))
 
+  -- the nodes entered from a root, after es, are those that remain from its meeting
   pub remaining-start : entered_from t r es ≡ remaining t (start t r) es
   unfolding entered_from
-  remaining-start = ap (drop (length es)) (root-visits (2 + 14 * nodes t) (omega arith)) ∙ drop_at es (remaining t (start t r) es) (length es) refl
+  remaining-start = ap (drop (length es)) (root-visits (2 + 14 * nodes t) (omega arith))
+      ∙ drop_at es (remaining t (start t r) es) (length es) refl
 
   -- The recursion enters the nodes of the tour as a list, in its order.
   pub tour-visits : entered_from t r es ≡ toured_from t r es
@@ -108,8 +111,10 @@ pub entered-one : (t : Words) → entered 1 t ≡ toured_from t (root t) []
 unfolding entered
 entered-one t = tour-visits t (root t) [] (no-numbers t)
 
+-- the nodes entered in collection 1 are different numbers from 1 to N
 pub first-numbers : (t : Words) → Numbers t (entered 1 t)
-first-numbers t = rw (entered-one t) (subst (λ (l : List ℕ). Numbers t l) (append-nil (toured_from t (root t) [])) (from-numbers t (root t) [] (no-numbers t)))
+first-numbers t = rw (entered-one t)
+    (subst (λ (l : List ℕ). Numbers t l) (append-nil (toured_from t (root t) [])) (from-numbers t (root t) [] (no-numbers t)))
 
 pub entered-two : (t : Words) → entered 2 t ≡ toured_from t (at t 3) (entered 1 t)
 unfolding entered

@@ -1,12 +1,8 @@
 -- The leaf for a key and the key's place in it: what insertion and deletion change of the map.
-use mathlib.Core.Path.{◌≡◌, refl, ap, sym, ◌∙◌}
-use mathlib.Core.Bool.{true, false}
-use mathlib.Core.Logic.{◌≢◌, ⊎_elim}
-use mathlib.Core.List.{List, ◌∷◌, ◌++◌, append_assoc, Memᴰ}
+use Rattle.std.proofs.Common.{◌≡◌, ℕ, suc, ◌<◌, ◌≤◌, true, false, ◌≢◌, List, ◌∷◌, ◌++◌, length, drop, sym, refl, ap, ◌∙◌, ⊎_elim}
+use Rattle.std.proofs.Common.{append_assoc, arith, length-drop}
+use mathlib.Core.List.{Memᴰ}
 use mathlib.Core.Option.{some}
-use Prim.Native.Nat.{ℕ, suc, ◌≤◌, ◌<◌}
-use native.Mathlib.Omega.{arith}
-use lib.ListN.{length, drop, length-drop}
 use Rattle.model.specs.Slots.{Slot, slot, View, height}
 use Rattle.model.specs.Search.{within, first_with}
 use Rattle.model.specs.Reached.{flat, kept, reached, leaves, mapping}
@@ -18,7 +14,8 @@ use Rattle.list_laws.proofs.Members.{each-mem, each-take, each-drop}
 use Rattle.tree_laws.proofs.Rows.{Good}
 use Rattle.tree_laws.proofs.Cover.{cover, below-past}
 use Rattle.tree_laws.proofs.Levels.{Orderly, row_at, row-leaves, mem-leaves}
-use Rattle.tree_laws.proofs.Rising.{lower, upper, lower-upper, lower-below, upper-from, upper-above, upper-first, rising-insert, rising-weaken, rising-from, Apart, rising-apart, rising-join, rising-raise, rising-cons, first-mem}
+use Rattle.tree_laws.proofs.Rising.{lower, upper, lower-upper, lower-below, upper-from, upper-above, upper-first, rising-insert}
+use Rattle.tree_laws.proofs.Rising.{rising-weaken, rising-from, Apart, rising-apart, rising-join, rising-raise, rising-cons, first-mem}
 use Rattle.tree_laws.proofs.Kept.{kept-rises, kept-within}
 use Rattle.tree_laws.proofs.MapLaw.{map-rising, leaf-part}
 use Rattle.tree_laws.proofs.SearchLaw.{path-at, leaf_for, leaf-mem, leaf-covers}
@@ -26,10 +23,12 @@ use Rattle.tree_laws.proofs.Leftovers.{SettledTree, settled-node}
 
 -- ---- the path in a settled tree
 
+-- on level l a search for k stands on the node of that row which covers k
 pub standing-at : (v : View) (l k : ℕ) → Orderly v → l ≤ height v → standing_in v l k ≡ cover v k (row_at v l)
 unfolding standing_in
 standing-at v l k o h = path-at v k l o h
 
+-- on level 0 a search for k stands on the leaf for k
 pub standing-leaf : (v : View) (k : ℕ) → Orderly v → standing_in v 0 k ≡ leaf_for v k
 standing-leaf v k o = standing-at v 0 k o (omega arith) ∙ ap (cover v k) (row-leaves v)
 
@@ -72,7 +71,9 @@ place-orderly v k o =
     let r = kept-rises v x c.good in
     let a = flat (kept v) p.left in
     let b = flat (kept v) p.right in
-    let over : Each (λ (s : Slot). k < s.key) b = Each-map (λ (s : Slot). within v x s.key ≡ false) (λ (s : Slot). k < s.key) b (λ s h. below-past v k (v.node x).sibling s.key c.inside h) p.high in
+    let over : Each (λ (s : Slot). k < s.key) b =
+    Each-map (λ (s : Slot). within v x s.key ≡ false) (λ (s : Slot). k < s.key) b
+    (λ s h. below-past v k (v.node x).sibling s.key c.inside h) p.high in
     record {
       leaf = m;
       reached = ((mem-leaves v x o).0 m).0;
@@ -89,8 +90,11 @@ place-orderly v k o =
       not-left = p.not-left;
       not-right = p.not-right;
       map = p.parts ∙ ap (λ (l : List Slot). a ++ (l ++ b)) (lower-upper k ss) ∙ around a (lower k ss) (upper k ss) b;
-      low = Each-append (λ (s : Slot). s.key < k) a (lower k ss) (Each-map (λ (s : Slot). s.key < (v.node x).fence) (λ (s : Slot). s.key < k) a (λ s h. omega (arith, c.fence)) p.low) (lower-below k ss);
-      high = Each-append (λ (s : Slot). k ≤ s.key) (upper k ss) b (upper-from (v.node x).fence k ss r) (Each-map (λ (s : Slot). k < s.key) (λ (s : Slot). k ≤ s.key) b (λ s h. omega arith) over);
+      low = Each-append (λ (s : Slot). s.key < k) a (lower k ss)
+          (Each-map (λ (s : Slot). s.key < (v.node x).fence) (λ (s : Slot). s.key < k) a (λ s h. omega (arith, c.fence)) p.low)
+          (lower-below k ss);
+      high = Each-append (λ (s : Slot). k ≤ s.key) (upper k ss) b (upper-from (v.node x).fence k ss r)
+          (Each-map (λ (s : Slot). k < s.key) (λ (s : Slot). k ≤ s.key) b (λ s h. omega arith) over);
       beyond = over;
     }
 
@@ -110,26 +114,34 @@ pub record InsertPlace (v : View) (k x : ℕ) (ss : List Slot) (left right : Lis
   pub within : Each (λ (s : Slot). within v (leaf_for v k) s.key ≡ true) (lower k ss ++ slot k x ∷ upper k ss)
   pub map-rises : rising 0 ((flat (kept v) left ++ lower k ss) ++ slot k x ∷ (upper k ss ++ flat (kept v) right)) ≡ true
 
-rising-put : (k x : ℕ) (a b : List Slot) → Apart 0 a b → Each (λ (s : Slot). s.key < k) a → Each (λ (s : Slot). k < s.key) b → rising 0 (a ++ slot k x ∷ b) ≡ true
-rising-put k x a b r l h = rising-join 0 k a (slot k x ∷ b) (omega arith) r.left l ((rising-cons k (slot k x) b).1 (omega arith, rising-raise 0 (suc k) b r.right h))
+rising-put : (k x : ℕ) (a b : List Slot) → Apart 0 a b → Each (λ (s : Slot). s.key < k) a → Each (λ (s : Slot). k < s.key) b
+    → rising 0 (a ++ slot k x ∷ b) ≡ true
+rising-put k x a b r l h =
+    rising-join 0 k a (slot k x ∷ b) (omega arith) r.left l
+    ((rising-cons k (slot k x) b).1 (omega arith, rising-raise 0 (suc k) b r.right h))
 
-pub place-absent : (v : View) (k x : ℕ) (ss : List Slot) → Orderly v → (p : Place v k ss) → Misses k (mapping v) → InsertPlace v k x ss p.left p.right
+-- if the map lacks k, its leaf does, and the keys of leaf and map still rise with (k, x) put in at its place
+pub place-absent : (v : View) (k x : ℕ) (ss : List Slot) → Orderly v → (p : Place v k ss) → Misses k (mapping v)
+    → InsertPlace v k x ss p.left p.right
 place-absent v k x ss o p e =
     let a = flat (kept v) p.left ++ lower k ss in
     let b = upper k ss ++ flat (kept v) p.right in
     let mi = Each-split (λ (s : Slot). s.key ≡ k → ⊥) a b (rw p.map at e) in
     let m : Misses k ss = rw (← lower-upper k ss) at
-    (Each-append (λ (s : Slot). s.key ≡ k → ⊥) (lower k ss) (upper k ss) (Each-split (λ (s : Slot). s.key ≡ k → ⊥) (flat (kept v) p.left) (lower k ss) mi.0).1
+    (Each-append (λ (s : Slot). s.key ≡ k → ⊥) (lower k ss) (upper k ss)
+    (Each-split (λ (s : Slot). s.key ≡ k → ⊥) (flat (kept v) p.left) (lower k ss) mi.0).1
     (Each-split (λ (s : Slot). s.key ≡ k → ⊥) (upper k ss) (flat (kept v) p.right) mi.1).0) in
     let f = (v.node (leaf_for v k)).fence in
     let w : Slot → Type 0 = λ (s : Slot). within v (leaf_for v k) s.key ≡ true in
-    let above : Each (λ (s : Slot). k < s.key) b = Each-append (λ (s : Slot). k < s.key) (upper k ss) (flat (kept v) p.right) (upper-above f k ss p.rises m) p.beyond in
+    let above : Each (λ (s : Slot). k < s.key) b =
+    Each-append (λ (s : Slot). k < s.key) (upper k ss) (flat (kept v) p.right) (upper-above f k ss p.rises m) p.beyond in
     let r = rising-apart 0 a b (ap (rising 0) (sym p.map) ∙ map-rising v o) in
     record {
       misses = m;
       above = above;
       rises = rising-insert f k x ss p.rises p.fence m;
-      within = Each-append w (lower k ss) (slot k x ∷ upper k ss) (each-take w (place_of k ss) ss p.within) (p.inside, each-drop w (place_of k ss) ss p.within);
+      within = Each-append w (lower k ss) (slot k x ∷ upper k ss) (each-take w (place_of k ss) ss p.within)
+          (p.inside, each-drop w (place_of k ss) ss p.within);
       map-rises = rising-put k x a b r p.low above;
     }
 
@@ -145,7 +157,9 @@ pub record DeletePlace (v : View) (k x : ℕ) (ss : List Slot) (left right : Lis
   pub within : Each (λ (s : Slot). within v (leaf_for v k) s.key ≡ true) (lower k ss ++ drop (suc (place_of k ss)) ss)
   pub map-rises : rising 0 ((flat (kept v) left ++ lower k ss) ++ (drop (suc (place_of k ss)) ss ++ flat (kept v) right)) ≡ true
 
-pub place-found : (v : View) (k x : ℕ) (ss : List Slot) → Orderly v → (p : Place v k ss) → first_with k (mapping v) ≡ some (slot k x) → DeletePlace v k x ss p.left p.right
+-- if the map has (k, x), it stands at its place in its leaf, and the keys of leaf and map still rise without it
+pub place-found : (v : View) (k x : ℕ) (ss : List Slot) → Orderly v → (p : Place v k ss) → first_with k (mapping v) ≡ some (slot k x)
+    → DeletePlace v k x ss p.left p.right
 place-found v k x ss o p e =
     let a = flat (kept v) p.left ++ lower k ss in
     let c = flat (kept v) p.right in
@@ -155,8 +169,10 @@ place-found v k x ss o p e =
     let w : Slot → Type 0 = λ (s : Slot). within v (leaf_for v k) s.key ≡ true in
     let m : Memᴰ (slot k x) (a ++ (upper k ss ++ c)) = rw p.map at (first-mem k (slot k x) (mapping v) e).0 in
     let mu : Memᴰ (slot k x) (upper k ss) = ⊎_elim (λ h. absurd (omega (arith, each-mem (λ (s : Slot). s.key < k) p.low h)))
-    (λ h. ⊎_elim (λ t. t) (λ t. absurd (omega (arith, each-mem (λ (s : Slot). k < s.key) p.beyond t))) (mathlib.Core.List.Memᴰ.append_cases {a = slot k x} (upper k ss) h)) (mathlib.Core.List.Memᴰ.append_cases {a = slot k x} a m) in
-    let u : upper k ss ≡ slot k x ∷ tl = upper-first f k x ss p.rises (rw (← lower-upper k ss) at (mathlib.Core.List.Memᴰ.append_right (lower k ss) mu)) in
+    (λ h. ⊎_elim (λ t. t) (λ t. absurd (omega (arith, each-mem (λ (s : Slot). k < s.key) p.beyond t)))
+    (mathlib.Core.List.Memᴰ.append_cases {a = slot k x} (upper k ss) h)) (mathlib.Core.List.Memᴰ.append_cases {a = slot k x} a m) in
+    let u : upper k ss ≡ slot k x ∷ tl =
+    upper-first f k x ss p.rises (rw (← lower-upper k ss) at (mathlib.Core.List.Memᴰ.append_right (lower k ss) mu)) in
     let map : mapping v ≡ a ++ slot k x ∷ (tl ++ c) = p.map ∙ ap (λ (l : List Slot). a ++ (l ++ c)) u in
     let ra = rising-apart 0 a (slot k x ∷ (tl ++ c)) (ap (rising 0) (sym map) ∙ map-rising v o) in
     let rr : rising (suc k) (tl ++ c) ≡ true = ((rising-cons 0 (slot k x) (tl ++ c)).0 ra.right).1 in

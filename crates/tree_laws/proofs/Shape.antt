@@ -1,10 +1,6 @@
 -- The shape of a sound table: its levels as linked rows, each reached node once, and each node's kept keys within its range.
-use mathlib.Core.Path.{◌≡◌}
-use mathlib.Core.Bool.{true}
-use mathlib.Core.Logic.{◌↔◌}
-use mathlib.Core.List.{[], ◌∷◌, ◌++◌, Memᴰ}
-use Prim.Native.Nat.{ℕ, suc, ◌≤◌, ◌<◌}
-use lib.ListN.{length}
+use Rattle.std.proofs.Common.{◌≡◌, ℕ, suc, ◌<◌, ◌≤◌, true, ◌↔◌, [], ◌∷◌, ◌++◌, length}
+use mathlib.Core.List.{Memᴰ}
 use Rattle.model.specs.Table.{in_range}
 use Rattle.model.specs.Slots.{Slot, View, height}
 use Rattle.model.specs.Search.{within}
@@ -13,7 +9,8 @@ use Rattle.model.specs.SoundTest.{distinct, linked}
 use Rattle.list_laws.proofs.Tools.{Each}
 use Rattle.list_laws.proofs.Members.{each-mem, each-both}
 use Rattle.tree_laws.proofs.Rows.{Good, At}
-use Rattle.tree_laws.proofs.Levels.{Orderly, level-at, row_at, row-leaves, row-root, row-below, row-reached, reached-row, mem-leaves, Ascending, ascending, Bounded, reached-bounds, reached-few}
+use Rattle.tree_laws.proofs.Levels.{Orderly, level-at, row_at, row-leaves, row-root, row-below, row-reached, reached-row, mem-leaves}
+use Rattle.tree_laws.proofs.Levels.{Ascending, ascending, Bounded, reached-bounds, reached-few}
 use Rattle.tree_laws.proofs.Kept.{kept-within, kept-from, ignored, shown-split}
 
 -- keys from n's fence up to below its sibling's
@@ -57,6 +54,7 @@ shape-view v o = record {
   once = o.once;
   few = reached-few v o;
   leaves-are = λ n. mem-leaves v n o;
-  keys = λ {n} m. each-both (λ (s : Slot). (v.node n).fence ≤ s.key) (λ (s : Slot). within v n s.key ≡ true) (kept v n) (kept-from v n (each-mem (Good v) o.good m)) (kept-within v n);
+  keys = λ {n} m. each-both (λ (s : Slot). (v.node n).fence ≤ s.key) (λ (s : Slot). within v n s.key ≡ true) (kept v n)
+      (kept-from v n (each-mem (Good v) o.good m)) (kept-within v n);
   shows = λ {n} m. shown-split v n (each-mem (Good v) o.good m);
 }

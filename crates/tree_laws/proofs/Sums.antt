@@ -1,19 +1,15 @@
 -- Sums of what is unfinished: their laws, and which element a sum of one comes from.
-use mathlib.Core.Path.{◌≡◌, refl, ap, sym, ◌∙◌}
-use mathlib.Core.Bool.{Bool, true, false}
-use mathlib.Core.Logic.{◌↔◌, ◌≢◌, ◌⊎◌, inl, inr, ⊎_elim}
+use Rattle.std.proofs.Common.{◌≡◌, ℕ, Bool, true, false, eqb, ◌≢◌, ◌⊎◌, ◌↔◌, List, [], ◌∷◌, sym, refl, ap, ◌∙◌, inl, inr, ⊎_elim, arith}
+use Rattle.std.proofs.Common.{eq-eqb, eqb-true}
 use mathlib.Core.List.Memᴰ
-use mathlib.Core.List.{List, [], ◌∷◌, Memᴰ}
+use mathlib.Core.List.{Memᴰ}
 use mathlib.Core.Option.{none, some}
-use Prim.Native.Nat.{ℕ}
-use native.Mathlib.Omega.{arith}
-use lib.Dec.{eqb}
-use borrow.Author.Tests.{eqb-true, eq-eqb}
 use Rattle.model.specs.declared.Few.{Few}
 use Rattle.model.specs.declared.Few.TheVariants.{Zero, One, Many}
 use Rattle.model.specs.declared.MissingSlot.{MissingSlot}
 use Rattle.model.specs.declared.Unfinished.{Unfinished}
-use Rattle.model.specs.SoundTest.{distinct, finished, add_few, under, together, total, Leftover, nothing, hidden_in, missing_in, both_in, leftover_from, leftover_of}
+use Rattle.model.specs.SoundTest.{distinct, finished, add_few, under, together, total, Leftover, nothing, hidden_in, missing_in, both_in}
+use Rattle.model.specs.SoundTest.{leftover_from, leftover_of}
 use Rattle.list_laws.proofs.Tools.{Each, Each-map}
 use Rattle.list_laws.proofs.Members.{each-mem, each-both, elem-false}
 use Rattle.list_laws.proofs.Distinct.{distinct-cons}
@@ -46,9 +42,13 @@ few-comm Many Many = refl
 pub same-unfinished : (x y : Unfinished) → x.hidden ≡ y.hidden → x.trailing ≡ y.trailing → x.missing ≡ y.missing → x ≡ y
 same-unfinished x y a b c = λ i. record { hidden = a i; trailing = b i; missing = c i }
 
+-- unfinished things add up to the same, however they are grouped
 pub together-assoc : (x y z : Unfinished) → together (together x y) z ≡ together x (together y z)
-together-assoc x y z = same-unfinished _ _ (few-assoc x.hidden y.hidden z.hidden) (few-assoc x.trailing y.trailing z.trailing) (few-assoc x.missing y.missing z.missing)
+together-assoc x y z =
+    same-unfinished _ _ (few-assoc x.hidden y.hidden z.hidden) (few-assoc x.trailing y.trailing z.trailing)
+    (few-assoc x.missing y.missing z.missing)
 
+-- unfinished things add up to the same in either order
 pub together-comm : (x y : Unfinished) → together x y ≡ together y x
 together-comm x y = same-unfinished _ _ (few-comm x.hidden y.hidden) (few-comm x.trailing y.trailing) (few-comm x.missing y.missing)
 
@@ -92,7 +92,13 @@ few-one x (One y) Many e = let q : ◌≡◌ {A = ℕ} 0 1 = cc in absurd (omega
 few-one x Many b e = let q : ◌≡◌ {A = ℕ} 0 1 = cc in absurd (omega arith)
 
 pub few-atom : {A : Type 0} (x : A) → Atom Zero add_few (One x)
-few-atom x = record { unit-l = λ a. refl; unit-r = refl; apart = λ e. (let q : ◌≡◌ {A = ℕ} 0 1 = cc in omega arith); none = few-none; one = few-one x }
+few-atom x = record {
+  unit-l = λ a. refl;
+  unit-r = refl;
+  apart = λ e. (let q : ◌≡◌ {A = ℕ} 0 1 = cc in omega arith);
+  none = few-none;
+  one = few-one x;
+}
 
 -- x is a member of the list, of which P holds; Q holds of every other member
 pub record OnlyAt (x : ℕ) (xs : List ℕ) (P : Type 0) (Q : ℕ → Type 0) : Type 0 where
@@ -100,9 +106,16 @@ pub record OnlyAt (x : ℕ) (xs : List ℕ) (P : Type 0) (Q : ℕ → Type 0) : 
   pub here : P
   pub others : Each (λ (n : ℕ). n ≢ x → Q n) xs
 
-pub only-map : (x : ℕ) (xs : List ℕ) (P P' : Type 0) (Q Q' : ℕ → Type 0) → (P → P') → ((n : ℕ) → Q n → Q' n) → OnlyAt x xs P Q → OnlyAt x xs P' Q'
-only-map x xs P P' Q Q' f g o = record { member = o.member; here = f o.here; others = Each-map (λ (n : ℕ). n ≢ x → Q n) (λ (n : ℕ). n ≢ x → Q' n) xs (λ n h z. g n (h z)) o.others }
+pub only-map : (x : ℕ) (xs : List ℕ) (P P' : Type 0) (Q Q' : ℕ → Type 0) → (P → P') → ((n : ℕ) → Q n → Q' n)
+    → OnlyAt x xs P Q → OnlyAt x xs P' Q'
+only-map x xs P P' Q Q' f g o =
+    record {
+      member = o.member;
+      here = f o.here;
+      others = Each-map (λ (n : ℕ). n ≢ x → Q n) (λ (n : ℕ). n ≢ x → Q' n) xs (λ n h z. g n (h z)) o.others;
+    }
 
+-- what holds of the others in a list holds of each member but x
 pub only-other : (x : ℕ) (xs : List ℕ) (P : Type 0) (Q : ℕ → Type 0) → OnlyAt x xs P Q → (n : ℕ) → Memᴰ n xs → n ≢ x → Q n
 only-other x xs P Q o n m = each-mem (λ (n : ℕ). n ≢ x → Q n) o.others m
 
@@ -121,7 +134,17 @@ module _ {M : Type 0} (z : M) (op : M → M → M) (u : M) (at : Atom z op u) (g
   pub total-one : (xs : List ℕ) → total z op g xs ≡ u → (x : ℕ) × Only z u g xs x
   total-one [] e = absurd (at.apart (sym e))
   total-one (x ∷ xs) e = ⊎_elim
-      (λ w. (x, record { member = Memᴰ.head refl; here = w.0; others = (λ q. absurd (q refl), Each-map (λ (n : ℕ). g n ≡ z) (λ (n : ℕ). n ≢ x → g n ≡ z) xs (λ n h q. h) ((total-none xs).0 w.1)) }))
+      (λ w. (
+        x,
+        record {
+          member = Memᴰ.head refl;
+          here = w.0;
+          others = (
+            λ q. absurd (q refl),
+            Each-map (λ (n : ℕ). g n ≡ z) (λ (n : ℕ). n ≢ x → g n ≡ z) xs (λ n h q. h) ((total-none xs).0 w.1),
+          );
+        },
+      ))
       (λ w. let i = total-one xs w.1 in (i.0, record { member = Memᴰ.tail i.1.member; here = i.1.here; others = (λ q. w.0, i.1.others) }))
       (at.one (g x) (total z op g xs) e)
 
@@ -132,12 +155,14 @@ module _ {M : Type 0} (z : M) (op : M → M → M) (u : M) (at : Atom z op u) (g
       let no = (elem-false y ys).0 w.0 in
       ⊎_elim
       (λ e.
-      let h : Each (λ (n : ℕ). g n ≡ z) ys = Each-map (λ (n : ℕ). (n ≢ y) × (n ≢ x → g n ≡ z)) (λ (n : ℕ). g n ≡ z) ys (λ n a. a.1 (λ q. a.0 (q ∙ e)))
+      let h : Each (λ (n : ℕ). g n ≡ z) ys =
+      Each-map (λ (n : ℕ). (n ≢ y) × (n ≢ x → g n ≡ z)) (λ (n : ℕ). g n ≡ z) ys (λ n a. a.1 (λ q. a.0 (q ∙ e)))
       (each-both (λ (n : ℕ). n ≢ y) (λ (n : ℕ). n ≢ x → g n ≡ z) ys no o.others.1) in
       ap (λ (a : M). op a (total z op g ys)) (ap g (sym e) ∙ o.here) ∙ ap (op u) ((total-none ys).1 h) ∙ at.unit-r)
       (λ t.
       let q : g y ≡ z = o.others.0 (λ e. each-mem (λ (n : ℕ). n ≢ y) no t (sym e)) in
-      ap (λ (a : M). op a (total z op g ys)) q ∙ at.unit-l (total z op g ys) ∙ one-total ys x w.1 (record { member = t; here = o.here; others = o.others.1 }))
+      ap (λ (a : M). op a (total z op g ys)) q ∙ at.unit-l (total z op g ys)
+      ∙ one-total ys x w.1 (record { member = t; here = o.here; others = o.others.1 }))
       (Memᴰ.cases_cons o.member)
 
   -- where only x can give u
@@ -146,17 +171,24 @@ module _ {M : Type 0} (z : M) (op : M → M → M) (u : M) (at : Atom z op u) (g
 
 -- a sum is finished exactly if each part is
 finished-fields : (x : Unfinished) → (x ≡ finished) ↔ ((x.hidden ≡ Zero) × (x.trailing ≡ Zero) × (x.missing ≡ Zero))
-finished-fields x = (λ e. (ap (λ (y : Unfinished). y.hidden) e, ap (λ (y : Unfinished). y.trailing) e, ap (λ (y : Unfinished). y.missing) e), λ h. same-unfinished x finished h.0 h.1 h.2)
+finished-fields x = (
+  λ e.
+      (ap (λ (y : Unfinished). y.hidden) e, ap (λ (y : Unfinished). y.trailing) e, ap (λ (y : Unfinished). y.missing) e),
+  λ h. same-unfinished x finished h.0 h.1 h.2,
+)
 
-pub total-finished {ℓ} : {A : Type ℓ} (g : A → Unfinished) (xs : List A) → (total finished together g xs ≡ finished) ↔ Each (λ (x : A). g x ≡ finished) xs
+pub total-finished {ℓ} :
+    {A : Type ℓ} (g : A → Unfinished) (xs : List A) → (total finished together g xs ≡ finished) ↔ Each (λ (x : A). g x ≡ finished) xs
 total-finished g [] = (λ e. tt, λ h. refl)
 total-finished g (x ∷ xs) = (
   λ e.
       let u = (finished-fields (together (g x) (total finished together g xs))).0 e in
       let a = few-none (g x).hidden _ u.0 in
       let b = few-none (g x).trailing _ u.1 in
-      let c = few-none (g x).missing _ u.2 in
-      ((finished-fields (g x)).1 (a.0, b.0, c.0), (total-finished g xs).0 ((finished-fields (total finished together g xs)).1 (a.1, b.1, c.1))),
+      let c = few-none (g x).missing _ u.2 in (
+        (finished-fields (g x)).1 (a.0, b.0, c.0),
+        (total-finished g xs).0 ((finished-fields (total finished together g xs)).1 (a.1, b.1, c.1)),
+      ),
   λ h. ap (λ (y : Unfinished). together y (total finished together g xs)) h.0 ∙ (total-finished g xs).1 h.1,
 )
 
@@ -169,13 +201,15 @@ amount (missing_in p a false) = record { hidden = Zero; trailing = Zero; missing
 amount (missing_in p a true) = record { hidden = Zero; trailing = One a; missing = One (under p a) }
 amount (both_in p a) = record { hidden = One p; trailing = Zero; missing = One (under p a) }
 
+-- equal answers that are some leftover are the same leftover
 pub some-same : (a b : Leftover) → some a ≡ some b → a ≡ b
 some-same a b e = cc
 
 some-none : (a : Leftover) → none ≡ some a → ⊥
 some-none a e = let q : ◌≡◌ {A = ℕ} 0 1 = cc in omega arith
 
-amount-of : (f g : Few ℕ) (m : Few MissingSlot) (x : Leftover) → leftover_from f g m ≡ some x → record { hidden = f; trailing = g; missing = m } ≡ amount x
+amount-of : (f g : Few ℕ) (m : Few MissingSlot) (x : Leftover) → leftover_from f g m ≡ some x
+    → record { hidden = f; trailing = g; missing = m } ≡ amount x
 amount-of Zero Zero Zero x e = ap amount (some-same _ x e)
 amount-of Zero Zero (One m) x e = ap amount (some-same _ x e)
 amount-of Zero Zero Many x e = absurd (some-none x e)
@@ -183,7 +217,8 @@ amount-of Zero (One y) Zero x e = absurd (some-none x e)
 amount-of Zero (One y) (One m) x e = go (eqb y m.node) refl
   where
     go : (b : Bool) → eqb y m.node ≡ b → record { hidden = Zero; trailing = One y; missing = One m } ≡ amount x
-    go true c = let h : some (missing_in m.parent m.node true) ≡ some x = rw c at e in rw (eqb-true y m.node c) (ap amount (some-same _ x h))
+    go true c = let h : some (missing_in m.parent m.node true) ≡ some x =
+        rw c at e in rw (eqb-true y m.node c) (ap amount (some-same _ x h))
     go false c = absurd (some-none x (rw c at e))
 amount-of Zero (One y) Many x e = absurd (some-none x e)
 amount-of Zero Many m x e = absurd (some-none x e)

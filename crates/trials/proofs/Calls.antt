@@ -1,9 +1,5 @@
 -- Writes tried on tables of every kind: each first part of their stores, each cut of their orders, and the numbers that refuse.
-use mathlib.Core.Path.{◌≡◌, refl}
-use mathlib.Core.Bool.{Bool, true, false, ◌&&◌}
-use mathlib.Core.List.{List, [], ◌∷◌, ◌++◌}
-use Prim.Native.Nat.{ℕ, pred}
-use lib.ListN.{take}
+use Rattle.std.proofs.Common.{◌≡◌, ℕ, pred, Bool, true, false, ◌&&◌, List, [], ◌∷◌, ◌++◌, take, refl}
 use Rattle.model.specs.Table.{MARK, Words, empty}
 use Rattle.model.specs.Slots.{slot, RECORDINGS, pointer_of, view}
 use Rattle.model.specs.SoundTest.{all}
@@ -47,8 +43,10 @@ splitting =
 -- runs of two full nodes, a leaf and its parent: below the root, with a sibling; and the root itself
 abbrev pub runs : List Trial
 runs =
-    done (three_levels (0 ∷ 0 ∷ 0 ∷ 0 ∷ 0 ∷ 0 ∷ 0 ∷ 0 ∷ 0 ∷ 0 ∷ 0 ∷ 11 ∷ 0 ∷ []) (ways 2 11) (slot 2400 15 ∷ []) (stale 2)) (2199 ∷ 2210 ∷ 2260 ∷ 2310 ∷ 2400 ∷ []) (insertion 1 2315 7 0 ∷ [])
-    ∷ done (two_levels (0 ∷ 0 ∷ 0 ∷ 0 ∷ 0 ∷ 11 ∷ 0 ∷ 0 ∷ 0 ∷ 0 ∷ 0 ∷ 0 ∷ []) (ways 2 11) (stale 3)) (999 ∷ 1010 ∷ 1060 ∷ 1110 ∷ 1200 ∷ []) (insertion 1 1000 7 0 ∷ [])
+    done (three_levels (0 ∷ 0 ∷ 0 ∷ 0 ∷ 0 ∷ 0 ∷ 0 ∷ 0 ∷ 0 ∷ 0 ∷ 0 ∷ 11 ∷ 0 ∷ []) (ways 2 11) (slot 2400 15 ∷ []) (stale 2))
+    (2199 ∷ 2210 ∷ 2260 ∷ 2310 ∷ 2400 ∷ []) (insertion 1 2315 7 0 ∷ [])
+    ∷ done (two_levels (0 ∷ 0 ∷ 0 ∷ 0 ∷ 0 ∷ 11 ∷ 0 ∷ 0 ∷ 0 ∷ 0 ∷ 0 ∷ 0 ∷ []) (ways 2 11) (stale 3)) (999 ∷ 1010 ∷ 1060 ∷ 1110 ∷ 1200 ∷ [])
+    (insertion 1 1000 7 0 ∷ [])
     ∷ []
 
 -- leftover (a) in a leaf and in an inner node, at slot 0, between two slots and at the end; with a full leaf
@@ -58,7 +56,8 @@ hidden_trials =
     ∷ small (apply (put (pointer_word 1 1) 101 ∷ []) (one_level 3 (stale 1))) (repair ∷ insertion 1 20 7 0 ∷ deletion 1 10 ∷ [])
     ∷ small (apply (put (pointer_word 1 2) 102 ∷ []) (one_level 3 (stale 1))) (repair ∷ insertion 1 35 7 0 ∷ deletion 1 20 ∷ [])
     ∷ small (two_levels (1 ∷ 1 ∷ 1 ∷ []) (slot 77 1 ∷ ways 2 2) (stale 1)) (repair ∷ insertion 1 205 7 0 ∷ deletion 1 10 ∷ [])
-    ∷ small (two_levels (1 ∷ 1 ∷ 1 ∷ []) (slot 200 2 ∷ slot 300 2 ∷ ways 3 1) (stale 1)) (repair ∷ insertion 1 305 7 0 ∷ deletion 1 210 ∷ [])
+    ∷ small (two_levels (1 ∷ 1 ∷ 1 ∷ []) (slot 200 2 ∷ slot 300 2 ∷ ways 3 1) (stale 1))
+    (repair ∷ insertion 1 305 7 0 ∷ deletion 1 210 ∷ [])
     ∷ small (two_levels (1 ∷ 1 ∷ 1 ∷ []) (ways 2 2 ++ (slot 0 3 ∷ [])) (stale 1)) (repair ∷ insertion 1 405 7 0 ∷ deletion 1 410 ∷ [])
     ∷ done (two_levels (11 ∷ 1 ∷ []) (slot 200 1 ∷ ways 2 1) (stale 1)) (10 ∷ 60 ∷ 110 ∷ 210 ∷ []) (insertion 1 115 7 0 ∷ [])
     ∷ []
@@ -67,7 +66,8 @@ hidden_trials =
 -- leaf that repair cuts, so that no split is due
 abbrev pub missing_slots : List Trial
 missing_slots =
-    small (apply (put (key_word 1 1) 220 ∷ put (key_word 1 2) 200 ∷ []) (two_levels (3 ∷ 1 ∷ []) [] [])) (repair ∷ insertion 1 105 7 0 ∷ deletion 1 10 ∷ [])
+    small (apply (put (key_word 1 1) 220 ∷ put (key_word 1 2) 200 ∷ []) (two_levels (3 ∷ 1 ∷ []) [] []))
+    (repair ∷ insertion 1 105 7 0 ∷ deletion 1 10 ∷ [])
     ∷ small (two_levels (1 ∷ 1 ∷ []) [] []) (repair ∷ insertion 1 105 7 0 ∷ deletion 1 210 ∷ [])
     ∷ small (two_levels (1 ∷ 1 ∷ []) (slot 200 1 ∷ []) []) (repair ∷ insertion 1 205 7 0 ∷ deletion 1 10 ∷ [])
     ∷ small (apply (put (key_word 1 0) 220 ∷ []) (two_levels (1 ∷ 1 ∷ 1 ∷ []) (ways 3 1) [])) (repair ∷ [])
@@ -83,7 +83,9 @@ missing_slots =
 -- freed
 abbrev pub cuts : List Trial
 cuts =
-    cut (one_level 4 []) (insertion 1 5 7 0 ∷ []) ∷ cut (one_level 5 []) (deletion 1 10 ∷ []) ∷ cut (two_levels (11 ∷ []) [] (stale 1)) (insertion 1 115 7 0 ∷ []) ∷ cut (two_levels (1 ∷ 1 ∷ 1 ∷ []) (ways 2 2) []) (deletion 1 210 ∷ []) ∷ []
+    cut (one_level 4 []) (insertion 1 5 7 0 ∷ []) ∷ cut (one_level 5 []) (deletion 1 10 ∷ [])
+    ∷ cut (two_levels (11 ∷ []) [] (stale 1)) (insertion 1 115 7 0 ∷ [])
+    ∷ cut (two_levels (1 ∷ 1 ∷ 1 ∷ []) (ways 2 2) []) (deletion 1 210 ∷ []) ∷ []
 
 -- an emptied leaf is freed, and no other node: in the middle, at the end, below a full parent, below a second parent; not a root leaf, nor
 -- a leftmost child. Cut between the parent's first store and the last, repair attaches it again; emptied by a cut or a repair, it stays.
@@ -110,7 +112,8 @@ classes =
     small (one_level 3 []) (class_change 1 10 1 ∷ class_change 1 20 0 ∷ class_change 1 30 2 ∷ [])
     ∷ done (one_level 11 []) (10 ∷ 60 ∷ 110 ∷ []) (class_change 1 60 2 ∷ class_change 1 110 1 ∷ [])
     ∷ small (apply (put (pointer_word 1 1) 101 ∷ []) (one_level 3 (stale 1))) (class_change 1 10 1 ∷ class_change 1 30 2 ∷ [])
-    ∷ small (apply (put (key_word 1 1) 220 ∷ put (key_word 1 2) 200 ∷ []) (two_levels (3 ∷ 1 ∷ []) [] [])) (class_change 1 10 1 ∷ class_change 1 210 2 ∷ [])
+    ∷ small (apply (put (key_word 1 1) 220 ∷ put (key_word 1 2) 200 ∷ []) (two_levels (3 ∷ 1 ∷ []) [] []))
+    (class_change 1 10 1 ∷ class_change 1 210 2 ∷ [])
     ∷ small (two_levels (1 ∷ 1 ∷ []) (slot 200 1 ∷ []) []) (class_change 1 210 1 ∷ [])
     ∷ cut (one_level 4 []) (class_change 1 20 2 ∷ [])
     ∷ cut (apply (put (pointer_word 1 1) 101 ∷ []) (one_level 3 (stale 1))) (class_change 1 30 1 ∷ [])
@@ -123,17 +126,20 @@ refusals =
     ∷ number (apply (put 3 1 ∷ []) (empty 1)) 2559 2 (insertion 1 1 0 3 ∷ deletion 1 1 ∷ class_change 1 1 3 ∷ repair ∷ [])
     ∷ number (apply (put 12 1 ∷ []) (empty 1)) 2559 4 (insertion 1 1 0 3 ∷ deletion 1 1 ∷ class_change 1 1 3 ∷ repair ∷ [])
     ∷ number (one_level 11 []) 2560 6 (insertion 1 10 0 0 ∷ insertion 1 10 RECORDINGS 3 ∷ insertion 1 10 MARK 3 ∷ [])
-    ∷ number (one_level 11 []) 2560 14 (insertion 1 10 101 3 ∷ insertion 1 10 (pred RECORDINGS) MARK ∷ class_change 1 10 3 ∷ class_change 1 11 MARK ∷ [])
+    ∷ number (one_level 11 []) 2560 14
+    (insertion 1 10 101 3 ∷ insertion 1 10 (pred RECORDINGS) MARK ∷ class_change 1 10 3 ∷ class_change 1 11 MARK ∷ [])
     ∷ number (one_level 11 []) 2560 7 (insertion 1 10 101 0 ∷ insertion 1 110 102 0 ∷ [])
     ∷ number (one_level 11 []) 2560 8 (insertion 1 11 101 2 ∷ insertion 1 0 111 0 ∷ [])
-    ∷ number (apply (put (pointer_word 1 0) (pointer_of 101 2) ∷ []) (one_level 3 [])) 2560 8 (insertion 1 11 101 0 ∷ insertion 1 11 101 2 ∷ [])
+    ∷ number (apply (put (pointer_word 1 0) (pointer_of 101 2) ∷ []) (one_level 3 [])) 2560 8
+    (insertion 1 11 101 0 ∷ insertion 1 11 101 2 ∷ [])
     ∷ number (one_level 11 []) 2560 9 (deletion 1 11 ∷ deletion 1 0 ∷ class_change 1 11 0 ∷ class_change 1 0 2 ∷ [])
     ∷ number (one_level 3 []) 2560 0 (insertion 1 11 (pred RECORDINGS) 2 ∷ class_change 1 10 0 ∷ class_change 1 10 2 ∷ [])
     ∷ number (one_level 11 []) 2560 10 (insertion 1 11 1 0 ∷ [])
     ∷ number (one_level 11 (stale 1)) 2560 10 (insertion 1 11 1 0 ∷ [])
     ∷ number (two_levels (11 ∷ 1 ∷ []) (ways 2 1) []) 2560 10 (insertion 1 11 1 0 ∷ [])
     ∷ number (two_levels (11 ∷ 1 ∷ []) (ways 2 1) []) 2560 0 (insertion 1 211 1 0 ∷ [])
-    ∷ number (apply (put (key_word 1 1) 230 ∷ []) (two_levels (2 ∷ 1 ∷ []) [] [])) 2560 0 (insertion 1 20 102 0 ∷ insertion 1 230 102 0 ∷ repair ∷ [])
+    ∷ number (apply (put (key_word 1 1) 230 ∷ []) (two_levels (2 ∷ 1 ∷ []) [] [])) 2560 0
+    (insertion 1 20 102 0 ∷ insertion 1 230 102 0 ∷ repair ∷ [])
     ∷ []
 
 -- ---- all of them pass
@@ -191,4 +197,5 @@ all_trials = in_leaf ++ (splitting ++ (runs ++ (hidden_trials ++ (missing_slots 
 pub trials : all (passes view) all_trials ≡ true
 trials =
     and-more in_leaf _ in-leaf (and-more splitting _ split-one (and-more runs _ split-two (and-more hidden_trials _ hidden-slots
-    (and-more missing_slots _ missing-slots (and-more cuts _ cut-calls (and-more freeing _ freed-leaves (and-more classes refusals class-changes refused-calls)))))))
+    (and-more missing_slots _ missing-slots
+    (and-more cuts _ cut-calls (and-more freeing _ freed-leaves (and-more classes refusals class-changes refused-calls)))))))

@@ -1,4 +1,5 @@
--- The definitions tried: writes whole and cut, what breaks soundness, single sentences, and those of requests 1, 5, 6, 8 and 10 to 12, and of scale 2.
+-- The definitions tried: writes whole and cut, what breaks soundness, single sentences, and those of requests 1, 5, 6, 8 and 10 to 12, and
+-- of scale 2.
 pub mod Calls
 pub mod Unsound
 pub mod Sentences

@@ -1,6 +1,5 @@
 -- Sentences of request 1, the next code up, each computed where it decides.
-use mathlib.Core.Path.{◌≡◌, refl}
-use mathlib.Core.List.{[], ◌∷◌}
+use Rattle.std.proofs.Common.{◌≡◌, [], ◌∷◌, refl}
 use Rattle.model.specs.declared.Answer.TheVariants.{Found, Absent, Refused}
 use Rattle.std.specs.Prelude.{Some, None}
 use Rattle.model.specs.Table.{MARK, Words}
@@ -48,7 +47,8 @@ pub record NextUp : Type 0 where
   pub words-key : (next_or (search 1 (one_level 3 []) 5) 8 ≡ 10) × (higher_or (search 1 (one_level 3 []) 5) 8 ≡ 1)
   pub words-none : (next_or (search 1 (one_level 3 []) 31) 8 ≡ 8) × (higher_or (search 1 (one_level 3 []) 31) 8 ≡ 0)
   pub words-found : (next_or (search 1 (one_level 3 []) 10) 8 ≡ 8) × (higher_or (search 1 (one_level 3 []) 10) 8 ≡ 8)
-  pub words-refused : (next_or (search 1 ring 500) 8 ≡ 8) × ((higher_or (search 1 ring 500) 8 ≡ 8) × (recording_or (search 1 ring 500) 8 ≡ 8))
+  pub words-refused : (next_or (search 1 ring 500) 8 ≡ 8)
+      × ((higher_or (search 1 ring 500) 8 ≡ 8) × (recording_or (search 1 ring 500) 8 ≡ 8))
 
 pub next-up : NextUp
 unfolding everything ten_slots

@@ -1,9 +1,6 @@
 -- Sentences of scale 2, packing as a call, each computed where it decides.
-use mathlib.Core.Path.{◌≡◌, refl}
-use mathlib.Core.Bool.{true}
-use mathlib.Core.List.{[], ◌∷◌, ◌++◌}
+use Rattle.std.proofs.Common.{◌≡◌, true, [], ◌∷◌, ◌++◌, replicate, refl}
 use mathlib.Core.Option.{none, some}
-use lib.ListN.{replicate}
 use Rattle.std.specs.Prelude.{Ok}
 use Rattle.model.specs.Results.{refused_with}
 use Rattle.model.specs.Table.{MARK, Words, empty, empty_of}
@@ -29,7 +26,8 @@ old = replicate 104 77
 
 pub record PackCalls : Type 0 where
   -- 11 to a leaf, the root last; the old words do not matter.
-  pub fills : pack_out 1 twelve [] old ≡ table_of 3 (node_words MARK 2 0 0 (pairs 11 1) ∷ node_words MARK 0 0 120 (pairs 1 12) ∷ node_words 1 0 1 0 (slot 120 2 ∷ []) ∷ [])
+  pub fills : pack_out 1 twelve [] old
+      ≡ table_of 3 (node_words MARK 2 0 0 (pairs 11 1) ∷ node_words MARK 0 0 120 (pairs 1 12) ∷ node_words 1 0 1 0 (slot 120 2 ∷ []) ∷ [])
   pub answers : (packing 1 twelve [] old ≡ Ok tt) × (settled (pack_out 1 twelve [] old) ≡ true)
   -- Its maps are exactly the pairs; the same recordings in both collections.
   pub maps : maps_of (pack_out 2 eleven eleven old) ≡ record { one = pairs 11 1; two = some (pairs 11 1) }
@@ -48,7 +46,8 @@ pub record PackCalls : Type 0 where
   pub falling : packing 2 eleven (6 ∷ 1 ∷ 5 ∷ 2 ∷ []) old ≡ refused_with 25
   pub no-recording : packing 1 (5 ∷ pointer_of 0 1 ∷ []) [] old ≡ refused_with 25
   pub no-class : packing 1 (5 ∷ pointer_of 1 3 ∷ []) [] old ≡ refused_with 25
-  pub twice : (packing 1 (5 ∷ pointer_of 9 0 ∷ 6 ∷ pointer_of 9 2 ∷ []) [] old ≡ refused_with 25) × (pack_out 1 (5 ∷ 9 ∷ 6 ∷ 9 ∷ []) [] old ≡ old)
+  pub twice : (packing 1 (5 ∷ pointer_of 9 0 ∷ 6 ∷ pointer_of 9 2 ∷ []) [] old ≡ refused_with 25)
+      × (pack_out 1 (5 ∷ 9 ∷ 6 ∷ 9 ∷ []) [] old ≡ old)
   -- The first and the last key that there are.
   pub ends : packing 1 (0 ∷ 1 ∷ MARK ∷ 2 ∷ []) [] old ≡ Ok tt
 

@@ -1,10 +1,6 @@
 -- Salvages tried on tables of one collection, sound and damaged; and packings of some sizes.
-use mathlib.Core.Path.{◌≡◌, refl}
-use mathlib.Core.Bool.{true}
-use mathlib.Core.List.{List, [], ◌∷◌, ◌++◌}
+use Rattle.std.proofs.Common.{◌≡◌, ℕ, zero, suc, ◌+◌, ◌*◌, true, List, [], ◌∷◌, ◌++◌, replicate, refl}
 use mathlib.Core.Option.{none}
-use Prim.Native.Nat.{ℕ, zero, suc, ◌*◌, ◌+◌}
-use lib.ListN.{replicate}
 use Rattle.std.specs.Prelude.{Ok}
 use Rattle.model.specs.Table.{MARK, Words, empty}
 use Rattle.model.specs.Slots.{Slot, slot, pointer_of}
@@ -35,7 +31,8 @@ packs-none = refl
 
 -- 12 pairs: a leaf of 11, a leaf of one with its key as fence, and the root, node 3; nodes past them are 0
 pub packs-twelve : packed_table 4 (alone (pairs 12 1))
-    ≡ table_of 3 (node_words MARK 2 0 0 (pairs 11 1) ∷ node_words MARK 0 0 120 (pairs 1 12) ∷ node_words 1 0 1 0 (slot 120 2 ∷ []) ∷ replicate 32 0 ∷ [])
+    ≡ table_of 3 (node_words MARK 2 0 0 (pairs 11 1) ∷ node_words MARK 0 0 120 (pairs 1 12)
+    ∷ node_words 1 0 1 0 (slot 120 2 ∷ []) ∷ replicate 32 0 ∷ [])
 unfolding everything
 packs-twelve = refl
 
@@ -57,7 +54,8 @@ counts = refl
 -- four nodes: the root 3 over 1 and 2, with the siblings and node 2's level and slots as given; node 4 is free
 abbrev pub tree : (s1 s2 l2 : ℕ) → List Slot → Words
 tree s1 s2 l2 ss =
-    table_of 3 (node_words MARK s1 0 0 (slot 10 100 ∷ slot 20 200 ∷ []) ∷ node_words MARK s2 l2 50 ss ∷ node_words 1 0 1 0 (slot 50 2 ∷ []) ∷ replicate 32 0 ∷ [])
+    table_of 3 (node_words MARK s1 0 0 (slot 10 100 ∷ slot 20 200 ∷ []) ∷ node_words MARK s2 l2 50 ss
+    ∷ node_words 1 0 1 0 (slot 50 2 ∷ []) ∷ replicate 32 0 ∷ [])
 
 abbrev pub good : Words
 good = tree 2 0 0 (slot 50 300 ∷ [])
@@ -95,8 +93,13 @@ unfolding everything
 first-reason = refl
 
 -- a class of 3; a recording kept, in another class; class 2; recording 0 in class 1
-pub classes : gathered 1 (tree 2 0 0 (slot 60 (pointer_of 700 3) ∷ slot 61 (pointer_of 100 1) ∷ slot 62 (pointer_of 800 2) ∷ slot 63 (pointer_of 0 1) ∷ []))
-    ≡ record { kept = slot 10 100 ∷ slot 20 200 ∷ slot 62 (pointer_of 800 2) ∷ []; dropped = dropped 2 0 1 ∷ dropped 2 1 3 ∷ dropped 2 3 1 ∷ [] }
+pub classes : gathered 1
+    (tree 2 0 0 (slot 60 (pointer_of 700 3) ∷ slot 61 (pointer_of 100 1) ∷ slot 62 (pointer_of 800 2) ∷ slot 63 (pointer_of 0 1) ∷ []))
+    ≡ record {
+      kept = slot 10 100 ∷ slot 20 200 ∷ slot 62 (pointer_of 800 2) ∷ [];
+      dropped = dropped 2 0 1
+          ∷ dropped 2 1 3 ∷ dropped 2 3 1 ∷ [];
+    }
 unfolding everything
 classes = refl
 
@@ -111,7 +114,9 @@ unfolding everything
 cut-chain = refl
 
 -- the first leaf's sibling, which passes over the second leaf, comes before the parent's slots
-pub sibling-first : entered 1 (table_of 4 (node_words MARK 3 0 0 [] ∷ node_words MARK 0 0 50 [] ∷ node_words MARK 0 0 70 [] ∷ node_words 1 0 1 0 (slot 50 2 ∷ slot 70 3 ∷ []) ∷ []))
+pub sibling-first : entered 1
+    (table_of 4 (node_words MARK 3 0 0 [] ∷ node_words MARK 0 0 50 [] ∷ node_words MARK 0 0 70 []
+    ∷ node_words 1 0 1 0 (slot 50 2 ∷ slot 70 3 ∷ []) ∷ []))
     ≡ 4 ∷ 1 ∷ 3 ∷ 2 ∷ []
 unfolding everything
 sibling-first = refl
@@ -119,14 +124,17 @@ sibling-first = refl
 -- a leaf with two parents is entered once, and its slots are collected once
 abbrev shared : Words
 shared =
-    table_of 5 (node_words MARK 0 0 0 (slot 10 100 ∷ []) ∷ node_words MARK 0 0 60 (slot 60 200 ∷ []) ∷ node_words 1 4 1 0 [] ∷ node_words 1 0 1 50 (slot 60 2 ∷ []) ∷ node_words 3 0 2 0 (slot 50 4 ∷ []) ∷ [])
+    table_of 5 (node_words MARK 0 0 0 (slot 10 100 ∷ []) ∷ node_words MARK 0 0 60 (slot 60 200 ∷ []) ∷ node_words 1 4 1 0 []
+    ∷ node_words 1 0 1 50 (slot 60 2 ∷ []) ∷ node_words 3 0 2 0 (slot 50 4 ∷ []) ∷ [])
 
-pub two-parents : (entered 1 shared ≡ 5 ∷ 3 ∷ 1 ∷ 4 ∷ 2 ∷ []) × (gathered 1 shared ≡ record { kept = slot 10 100 ∷ slot 60 200 ∷ []; dropped = [] })
+pub two-parents : (entered 1 shared ≡ 5 ∷ 3 ∷ 1 ∷ 4 ∷ 2 ∷ [])
+    × (gathered 1 shared ≡ record { kept = slot 10 100 ∷ slot 60 200 ∷ []; dropped = [] })
 unfolding everything
 two-parents = (refl, refl)
 
 -- ways back to the parent and to the node itself: no level fits
-pub cycle : entered 1 (table_of 1 (node_words 2 0 2 0 (slot 5 1 ∷ slot 6 2 ∷ []) ∷ node_words 1 2 1 0 (slot 5 2 ∷ slot 6 1 ∷ []) ∷ [])) ≡ 1 ∷ 2 ∷ []
+pub cycle : entered 1 (table_of 1 (node_words 2 0 2 0 (slot 5 1 ∷ slot 6 2 ∷ []) ∷ node_words 1 2 1 0 (slot 5 2 ∷ slot 6 1 ∷ []) ∷ [])) ≡ 1
+    ∷ 2 ∷ []
 unfolding everything
 cycle = refl
 
@@ -136,12 +144,14 @@ unfolding everything
 any-root = refl
 
 -- a sibling in range on another level, or the node itself, still gives its fence
-pub own-sibling : gathered 1 (table_of 1 (node_words MARK 1 0 15 (slot 10 100 ∷ slot 20 200 ∷ []) ∷ [])) ≡ record { kept = slot 10 100 ∷ []; dropped = [] }
+pub own-sibling : gathered 1 (table_of 1 (node_words MARK 1 0 15 (slot 10 100 ∷ slot 20 200 ∷ []) ∷ []))
+    ≡ record { kept = slot 10 100 ∷ []; dropped = [] }
 unfolding everything
 own-sibling = refl
 
 -- with a sibling outside 1 to N all shown slots count
-pub far-sibling : gathered 1 (table_of 1 (node_words MARK 2 0 15 (slot 10 100 ∷ slot 20 200 ∷ []) ∷ [])) ≡ record { kept = slot 10 100 ∷ slot 20 200 ∷ []; dropped = [] }
+pub far-sibling : gathered 1 (table_of 1 (node_words MARK 2 0 15 (slot 10 100 ∷ slot 20 200 ∷ []) ∷ []))
+    ≡ record { kept = slot 10 100 ∷ slot 20 200 ∷ []; dropped = [] }
 unfolding everything
 far-sibling = refl
 

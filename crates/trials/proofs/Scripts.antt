@@ -1,15 +1,13 @@
 -- Request 11, computed: what the actions are, single scripts and their numbers, words that are no script, tables held to a map.
-use mathlib.Core.Path.{◌≡◌, refl}
-use mathlib.Core.Bool.{true, false}
-use mathlib.Core.List.{[], ◌∷◌, map}
-use Prim.Native.Nat.{ℕ}
+use Rattle.std.proofs.Common.{◌≡◌, ℕ, true, false, [], ◌∷◌, map, refl}
 use Rattle.std.specs.Prelude.{Ok}
 use Rattle.model.specs.Results.{refused_with}
 use Rattle.model.specs.Table.{MARK, Words, empty}
 use Rattle.model.specs.Slots.{slot}
 use Rattle.model.specs.Writes.{insertion, deletion}
 use Rattle.model.specs.Refusals.{table_after}
-use Rattle.model.specs.Scripts.{call_of, before, script_of, script_words, script_answer, script_out, script_number, agrees, along, table_count, bad_count}
+use Rattle.model.specs.Scripts.{call_of, before, script_of, script_words, script_answer, script_out, script_number, agrees, along}
+use Rattle.model.specs.Scripts.{table_count, bad_count}
 use Rattle.model.proofs.Everything.{everything}
 
 -- ---- the six actions
@@ -24,7 +22,8 @@ actions-are = refl
 -- the first script of each length, the last one of all, and one between: 1000 is 259 and 741, which is 3 · 216 + 2 · 36 + 3 · 6 + 3
 pub record ScriptsAre : Type 0 where
   pub first : map (λ (n : ℕ). script_words (script_of n)) (0 ∷ 1 ∷ 7 ∷ 43 ∷ 259 ∷ [])
-      ≡ (0 ∷ 0 ∷ 0 ∷ 0 ∷ 0 ∷ []) ∷ (1 ∷ 0 ∷ 0 ∷ 0 ∷ 0 ∷ []) ∷ (2 ∷ 0 ∷ 0 ∷ 0 ∷ 0 ∷ []) ∷ (3 ∷ 0 ∷ 0 ∷ 0 ∷ 0 ∷ []) ∷ (4 ∷ 0 ∷ 0 ∷ 0 ∷ 0 ∷ []) ∷ []
+      ≡ (0 ∷ 0 ∷ 0 ∷ 0 ∷ 0 ∷ []) ∷ (1 ∷ 0 ∷ 0 ∷ 0 ∷ 0 ∷ []) ∷ (2 ∷ 0 ∷ 0 ∷ 0 ∷ 0 ∷ []) ∷ (3 ∷ 0 ∷ 0 ∷ 0 ∷ 0 ∷ [])
+      ∷ (4 ∷ 0 ∷ 0 ∷ 0 ∷ 0 ∷ []) ∷ []
   pub last : script_words (script_of 1554) ≡ 4 ∷ 5 ∷ 5 ∷ 5 ∷ 5 ∷ []
   pub thousand : script_words (script_of 1000) ≡ 4 ∷ 3 ∷ 2 ∷ 3 ∷ 3 ∷ []
   pub back : script_number (4 ∷ 3 ∷ 2 ∷ 3 ∷ 3 ∷ []) ≡ Ok 1000

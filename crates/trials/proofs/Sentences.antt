@@ -1,9 +1,5 @@
 -- Sentences of document 01 that neither a worked line nor a trial of a write shows, each computed where it decides.
-use mathlib.Core.Path.{◌≡◌, refl}
-use mathlib.Core.Bool.{true, false}
-use mathlib.Core.List.{List, [], ◌∷◌, ◌++◌}
-use Prim.Native.Nat.{ℕ, suc, ◌+◌}
-use lib.ListN.{replicate, set}
+use Rattle.std.proofs.Common.{◌≡◌, ℕ, suc, ◌+◌, true, false, List, [], ◌∷◌, ◌++◌, set, replicate, refl}
 use Rattle.model.specs.Results.{Printed, refused_with}
 use Rattle.model.specs.declared.Answer.TheVariants.{Found, Refused}
 use Rattle.model.specs.Codes.{print}
@@ -57,9 +53,11 @@ pub record Sentences : Type 0 where
   pub listing-two : list 1 (apply (put 3 1 ∷ put 12 1 ∷ []) (empty 1)) 0 MARK [] ≡ refused_with 2
   pub listing-four : list 1 (apply (put 12 1 ∷ []) (empty 1)) 0 MARK [] ≡ refused_with 4
   -- Carry-out applies the first c orders, and looks at no other; c above half the list's length, rounded down, is refused with 13.
-  pub first-two : (carry_number 2 (encode three_orders) (empty 1) ≡ 0) × (carried_out 2 (encode three_orders) (empty 1) ≡ set (empty 1) 16 5)
+  pub first-two : (carry_number 2 (encode three_orders) (empty 1) ≡ 0)
+      × (carried_out 2 (encode three_orders) (empty 1) ≡ set (empty 1) 16 5)
   pub all-three : (carry_number 3 (encode three_orders) (empty 1) ≡ 13) × (carried_out 3 (encode three_orders) (empty 1) ≡ empty 1)
-  pub rounded-down : (carry_number 2 (16 ∷ 5 ∷ MARK ∷ 2 ∷ 16 ∷ []) (empty 1) ≡ 0) × (carry_number 3 (16 ∷ 5 ∷ MARK ∷ 2 ∷ 16 ∷ []) (empty 1) ≡ 13)
+  pub rounded-down : (carry_number 2 (16 ∷ 5 ∷ MARK ∷ 2 ∷ 16 ∷ []) (empty 1) ≡ 0)
+      × (carry_number 3 (16 ∷ 5 ∷ MARK ∷ 2 ∷ 16 ∷ []) (empty 1) ≡ 13)
   -- A fresh node is the first unreachable one after A, not one before it; going round from N to 1; 0 for none.
   pub fresh-after : fresh (table_of 2 (stale 1 ++ (leaf_of 1 0 1 ∷ stale 2))) 2 ≡ 3
   pub fresh-round : fresh (table_of 3 (stale 2 ++ (leaf_of 1 0 1 ∷ []))) 3 ≡ 1

@@ -1,8 +1,5 @@
 -- Sentences of request 8, sentinels for the leaves, each computed where it decides.
-use mathlib.Core.Path.{◌≡◌, refl}
-use mathlib.Core.Bool.{true, false}
-use mathlib.Core.List.{[], ◌∷◌, ◌++◌}
-use lib.ListN.{length, replicate, set}
+use Rattle.std.proofs.Common.{◌≡◌, true, false, [], ◌∷◌, ◌++◌, length, set, replicate, refl}
 use Rattle.model.specs.declared.Answer.TheVariants.{Found, Absent, Refused}
 use Rattle.std.specs.Prelude.{Some, None}
 use Rattle.model.specs.Table.{MARK, Words, empty, empty_of}
@@ -47,10 +44,13 @@ pub record SentinelWords : Type 0 where
   pub hidden-fourth : words_of (sentinels (set start (pointer_word 2 4) 104)) 2 ≡ 1 ∷ 6 ∷ 9 ∷ []
   pub hidden-first : words_of (sentinels (set start (pointer_word 2 0) MARK)) 2 ≡ 2 ∷ 5 ∷ 9 ∷ []
   -- Ignored slots count: in the midst of a split A still shows them.
-  pub ignored : (sound linked ≡ true) × (length (map_of 2 linked) ≡ 11) × (words_of (sentinels linked) 2 ≡ 1 ∷ 5 ∷ 9 ∷ []) × (words_of (sentinels linked) 4 ≡ 6 ∷ 10 ∷ MARK ∷ [])
+  pub ignored : (sound linked ≡ true) × (length (map_of 2 linked) ≡ 11) × (words_of (sentinels linked) 2 ≡ 1 ∷ 5 ∷ 9 ∷ [])
+      × (words_of (sentinels linked) 4 ≡ 6 ∷ 10 ∷ MARK ∷ [])
   -- An inner node has 0, and so has a leaf that a deletion freed; both were stored to.
-  pub inner : (stores_to_node (stores_of twelfth start) 3 ≡ true) × (words_of (sentinels_with twelfth (sentinels start) 2560 0 start) 3 ≡ 0 ∷ 0 ∷ 0 ∷ [])
-  pub freed : (stores_to_node (stores_of (deletion 2 12) nearly) 4 ≡ true) × (sentinels_with (deletion 2 12) (sentinels nearly) 2560 0 nearly ≡ (5 ∷ MARK ∷ MARK ∷ 1 ∷ 5 ∷ MARK ∷ []) ++ replicate 12 0)
+  pub inner : (stores_to_node (stores_of twelfth start) 3 ≡ true)
+      × (words_of (sentinels_with twelfth (sentinels start) 2560 0 start) 3 ≡ 0 ∷ 0 ∷ 0 ∷ [])
+  pub freed : (stores_to_node (stores_of (deletion 2 12) nearly) 4 ≡ true)
+      × (sentinels_with (deletion 2 12) (sentinels nearly) 2560 0 nearly ≡ (5 ∷ MARK ∷ MARK ∷ 1 ∷ 5 ∷ MARK ∷ []) ++ replicate 12 0)
   -- Kept true by accepted writes, a repair too; no words are set but of the nodes stored to.
   pub split-true : (sentinels_with twelfth (sentinels start) 2560 0 start ≡ grown) × (sentinels (after twelfth start) ≡ grown)
   pub freed-true : sentinels (after (deletion 2 12) nearly) ≡ (5 ∷ MARK ∷ MARK ∷ 1 ∷ 5 ∷ MARK ∷ []) ++ replicate 12 0
@@ -61,17 +61,22 @@ pub record SentinelWords : Type 0 where
   pub last-line : (search_with 2 (replicate 18 0) start 3 ≡ Found 103 0) × (search_with 2 (replicate 18 0) start 12 ≡ Absent None)
   pub neighbour : (search_with 1 (replicate 18 6) start 0 ≡ Absent (Some 5)) × (search_with 1 (replicate 18 0) start 0 ≡ Absent (Some 5))
   -- Slots past the first pointer 0 are not in use, whatever they hold and whatever the words say.
-  pub past-the-end : (sound stale ≡ true) × (sentinels stale ≡ MARK ∷ MARK ∷ MARK ∷ []) × (search_with 1 (sentinels stale) stale MARK ≡ Absent None)
+  pub past-the-end : (sound stale ≡ true) × (sentinels stale ≡ MARK ∷ MARK ∷ MARK ∷ [])
+      × (search_with 1 (sentinels stale) stale MARK ≡ Absent None)
   -- The key MARK is found, though its line may have the word of a line without shown slots.
   pub mark-found : (search_with 1 (sentinels marked) marked MARK ≡ Found 9 0) × (search_with 1 (0 ∷ 0 ∷ 0 ∷ []) marked MARK ≡ Found 9 0)
   -- On another table the slot chosen differs, and nothing else.
   pub other-slot : (sound twice ≡ false) × (search 2 twice 3 ≡ Found 103 0) × (search_with 2 (replicate 18 0) twice 3 ≡ Found 110 0)
   -- 19 comes straight after 17: after 2 and 17, before 4.
-  pub search-nineteen : (search_with 2 [] start 1 ≡ Refused 19) × (search_with 3 [] start 1 ≡ Refused 17) × (search_with 1 [] (set start 3 7) 1 ≡ Refused 2)
-  pub write-nineteen : (refusal_with (deletion 1 6) 17 0 0 shared ≡ 19) × (refusal_with (deletion 3 6) 17 0 0 shared ≡ 17) × (refusal_with (deletion 1 6) 18 0 0 shared ≡ 4)
+  pub search-nineteen :
+      (search_with 2 [] start 1 ≡ Refused 19) × (search_with 3 [] start 1 ≡ Refused 17) × (search_with 1 [] (set start 3 7) 1 ≡ Refused 2)
+  pub write-nineteen :
+      (refusal_with (deletion 1 6) 17 0 0 shared ≡ 19) × (refusal_with (deletion 3 6) 17 0 0 shared ≡ 17)
+      × (refusal_with (deletion 1 6) 18 0 0 shared ≡ 4)
   pub repair-nineteen : (refusal_with repair 19 0 0 shared ≡ 19) × (refusal_with repair 19 0 0 (set shared 3 7) ≡ 2)
   -- Working them out on a table that is not sound gives 4, after 19.
-  pub works : (work_number 18 start ≡ 0) × (work_number 18 shared ≡ 4) × (work_number 17 shared ≡ 19) × (work_number 17 (set shared 3 7) ≡ 2)
+  pub works : (work_number 18 start ≡ 0) × (work_number 18 shared ≡ 4) × (work_number 17 shared ≡ 19)
+      × (work_number 17 (set shared 3 7) ≡ 2)
 
 pub sentinel_words : SentinelWords
 unfolding everything

@@ -1,9 +1,6 @@
--- Sound tables and stores that break one sentence each of document 01's "Sound tables", of one collection or two, judged by the definitions.
-use mathlib.Core.Path.{◌≡◌, refl}
-use mathlib.Core.Bool.{Bool, true, not, ◌&&◌}
-use mathlib.Core.List.{List, [], ◌∷◌, ◌++◌}
-use Prim.Native.Nat.{ℕ, zero, suc, pred, ◌+◌}
-use lib.ListN.{replicate}
+-- Sound tables and stores that break one sentence each of document 01's "Sound tables", of one collection or two, judged by the
+-- definitions.
+use Rattle.std.proofs.Common.{◌≡◌, ℕ, zero, suc, pred, ◌+◌, Bool, true, not, ◌&&◌, List, [], ◌∷◌, ◌++◌, replicate, refl}
 use Rattle.model.specs.Table.{MARK, Words, node_start}
 use Rattle.model.specs.Slots.{Slot, slot, RECORDINGS, pointer_of}
 use Rattle.model.specs.SoundTest.{all, sound, settled}

@@ -1,7 +1,5 @@
 -- Sentences of request 12, wear figures, each computed where it decides.
-use mathlib.Core.Path.{◌≡◌, refl}
-use mathlib.Core.List.{[], ◌∷◌}
-use lib.ListN.{replicate}
+use Rattle.std.proofs.Common.{◌≡◌, [], ◌∷◌, replicate, refl}
 use Rattle.model.specs.Results.{refused_with, worn_with}
 use Rattle.model.specs.Table.{MARK, Words, empty}
 use Rattle.model.specs.Orders.{BAR}
@@ -24,16 +22,20 @@ pub record WearFigures : Type 0 where
   -- Of lines with as many stores the first.
   pub first-of-equals : worn ends 5 4 (empty 1) ≡ worn_with 4 2 0 2
   -- Touching words are joined across lines, in whatever order they are stored to; a single last word is no order.
-  pub across : (worn (8 ∷ 1 ∷ 7 ∷ 1 ∷ 40 ∷ []) 5 2 (empty 1) ≡ worn_with 2 1 0 1) × (pairs_after (8 ∷ 1 ∷ 7 ∷ 1 ∷ []) (replicate 5 0) (0 ∷ 0 ∷ []) (empty 1) ≡ 7 ∷ 2 ∷ [])
+  pub across : (worn (8 ∷ 1 ∷ 7 ∷ 1 ∷ 40 ∷ []) 5 2 (empty 1) ≡ worn_with 2 1 0 1)
+      × (pairs_after (8 ∷ 1 ∷ 7 ∷ 1 ∷ []) (replicate 5 0) (0 ∷ 0 ∷ []) (empty 1) ≡ 7 ∷ 2 ∷ [])
   -- A list without stores.
   pub no-store : (worn [] 5 0 (empty 1) ≡ worn_with 0 0 0 0) × (worn (MARK ∷ 4 ∷ []) 5 0 (empty 1) ≡ worn_with 0 0 0 0)
   -- A barrier counts for nothing and is inside every table; with another second word its first is a store's word, outside every table.
-  pub barriers : (worn (9 ∷ 1 ∷ BAR ∷ 0 ∷ 9 ∷ 2 ∷ BAR ∷ 0 ∷ MARK ∷ 1 ∷ []) 5 2 (empty 1) ≡ worn_with 2 2 1 1) × (worn (BAR ∷ 1 ∷ []) 5 2 (empty 1) ≡ refused_with 13)
+  pub barriers : (worn (9 ∷ 1 ∷ BAR ∷ 0 ∷ 9 ∷ 2 ∷ BAR ∷ 0 ∷ MARK ∷ 1 ∷ []) 5 2 (empty 1) ≡ worn_with 2 2 1 1)
+      × (worn (BAR ∷ 1 ∷ []) 5 2 (empty 1) ≡ refused_with 13)
   -- 2, then 13 over the whole list, then 24 for the lines, also without a store, or for the pairs.
   pub two : worn (40 ∷ 1 ∷ []) 0 0 (7 ∷ empty 1) ≡ refused_with 2
-  pub thirteen : (worn (0 ∷ 1 ∷ 40 ∷ 1 ∷ []) 0 0 (empty 1) ≡ refused_with 13) × (worn (0 ∷ 1 ∷ MARK ∷ 5 ∷ []) 0 0 (empty 1) ≡ refused_with 13)
+  pub thirteen : (worn (0 ∷ 1 ∷ 40 ∷ 1 ∷ []) 0 0 (empty 1) ≡ refused_with 13)
+      × (worn (0 ∷ 1 ∷ MARK ∷ 5 ∷ []) 0 0 (empty 1) ≡ refused_with 13)
   pub few-lines : worn [] 4 9 (empty 1) ≡ refused_with 24
-  pub few-pairs : (worn printed 5 3 (empty 1) ≡ refused_with 24) × (lines_after printed (replicate 5 77) (replicate 3 88) (empty 1) ≡ replicate 5 77)
+  pub few-pairs : (worn printed 5 3 (empty 1) ≡ refused_with 24)
+      × (lines_after printed (replicate 5 77) (replicate 3 88) (empty 1) ≡ replicate 5 77)
 
 pub wear-computed : WearFigures
 unfolding everything

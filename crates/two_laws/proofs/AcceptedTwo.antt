@@ -1,12 +1,5 @@
 -- What an accepted call of one or two collections says of its arguments and its table, and the other way round.
-use mathlib.Core.Path.{◌≡◌, refl}
-use mathlib.Core.Bool.{true, false, not}
-use mathlib.Core.Logic.{◌≢◌, ◌↔◌, ◌⊎◌, inl, inr}
-use mathlib.Core.List.{List, ◌∷◌}
-use Prim.Native.Nat.{ℕ, ◌≤◌}
-use native.Mathlib.Omega.{arith}
-use lib.Dec.{ltb}
-use borrow.Author.Tests.{ltb-false, le-ltb}
+use Rattle.std.proofs.Common.{◌≡◌, ℕ, ◌≤◌, true, false, not, ltb, ◌≢◌, ◌⊎◌, ◌↔◌, List, ◌∷◌, refl, inl, inr, arith, ltb-false, le-ltb}
 use Rattle.model.specs.Table.{Words, header_ok, root_word, no_collection}
 use Rattle.model.specs.Slots.{class_ok}
 use Rattle.model.specs.Refusals.{Test, test, has_key, seventeen_in, eleven_in, ten_in, own_map, map_tests, words_for, refusal}
@@ -25,6 +18,7 @@ there n t = by-number t (λ (m : ℕ). ((m ≡ 1) ⊎ (m ≡ 2)) × Is (root_wor
 
 -- ---- what each call asks of the table as repair would leave it
 
+-- what the arguments and the map must be for the call to be accepted
 abbrev pub Allows : Call → Words → Type 0
 Allows (insertion n k r c) t = Enters n k r c t
 Allows (deletion n k) t = has_key k (map_of n t) ≡ true
@@ -45,7 +39,8 @@ abbrev later : Call → Words → List Test
 later x t = map_tests x (eleven_in x t) (ten_in x t) (own_map x t)
 
 later-numbers : (x : Call) (t : Words) → Each (λ (c : Test). c.number ≢ 0) (later x t)
-later-numbers (insertion n k r c) t = ((λ e. omega arith), ((λ e. omega arith), ((λ e. omega arith), ((λ e. omega arith), ((λ e. omega arith), ((λ e. omega arith), tt))))))
+later-numbers (insertion n k r c) t =
+    ((λ e. omega arith), ((λ e. omega arith), ((λ e. omega arith), ((λ e. omega arith), ((λ e. omega arith), ((λ e. omega arith), tt))))))
 later-numbers (deletion n k) t = ((λ e. omega arith), tt)
 later-numbers (class_change n k c) t = ((λ e. omega arith), ((λ e. omega arith), tt))
 later-numbers repair t = tt
@@ -53,19 +48,31 @@ later-numbers repair t = tt
 allows-iff : (x : Call) (t : Words) → Passed (later x t) ↔ Allows x t
 allows-iff (insertion n k r c) t = (
   λ h.
-      record { recording-ok = (not-false-iff _).0 h.0; class-ok = (not-false-iff _).0 h.1.0; no-key = h.1.1.0; no-recording = h.1.1.1.0; not-high = h.1.1.1.1.0; enough = h.1.1.1.1.1.0 },
+      record {
+        recording-ok = (not-false-iff _).0 h.0;
+        class-ok = (not-false-iff _).0 h.1.0;
+        no-key = h.1.1.0;
+        no-recording = h.1.1.1.0;
+        not-high = h.1.1.1.1.0;
+        enough = h.1.1.1.1.1.0;
+      },
   λ a. ((not-false-iff _).1 a.recording-ok, ((not-false-iff _).1 a.class-ok, (a.no-key, (a.no-recording, (a.not-high, (a.enough, tt)))))),
 )
 allows-iff (deletion n k) t = (λ h. (not-false-iff _).0 h.0, λ a. ((not-false-iff _).1 a, tt))
-allows-iff (class_change n k c) t = (λ h. ((not-false-iff _).0 h.0, (not-false-iff _).0 h.1.0), λ a. ((not-false-iff _).1 a.0, ((not-false-iff _).1 a.1, tt)))
+allows-iff (class_change n k c) t =
+    (λ h. ((not-false-iff _).0 h.0, (not-false-iff _).0 h.1.0), λ a. ((not-false-iff _).1 a.0, ((not-false-iff _).1 a.1, tt)))
 allows-iff repair t = (λ h. tt, λ a. tt)
 
 -- A call is accepted exactly if all of this holds.
 pub accepted-iff : (x : Call) (words dock : ℕ) (t : Words) → (refusal x words dock t ≡ 0) ↔ Accepted x words dock t
 unfolding refusal
 accepted-iff x words dock t =
-    let ts = test (not (header_ok t)) 2 ∷ test (seventeen_in x t) 17 ∷ test (not (sound t)) 4 ∷ test (ltb 1 dock) 18 ∷ test (ltb words (words_for dock)) 5 ∷ later x (repaired t) in
-    let i = none-holds ts ((λ e. omega arith), ((λ e. omega arith), ((λ e. omega arith), ((λ e. omega arith), ((λ e. omega arith), later-numbers x (repaired t)))))) in (
+    let ts = test (not (header_ok t)) 2 ∷ test (seventeen_in x t) 17 ∷ test (not (sound t)) 4 ∷ test (ltb 1 dock) 18
+    ∷ test (ltb words (words_for dock)) 5 ∷ later x (repaired t) in
+    let i = none-holds ts (
+      (λ e. omega arith),
+      ((λ e. omega arith), ((λ e. omega arith), ((λ e. omega arith), ((λ e. omega arith), later-numbers x (repaired t))))),
+    ) in (
       λ e. let h = i.0 e in
           record {
             header = (not-false-iff _).0 h.0;
@@ -75,5 +82,14 @@ accepted-iff x words dock t =
             long = ltb-false words (words_for dock) h.1.1.1.1.0;
             allows = (allows-iff x (repaired t)).0 h.1.1.1.1.1;
           },
-      λ a. i.1 ((not-false-iff _).1 a.header, (a.collection, ((not-false-iff _).1 a.sound, (le-ltb 1 dock a.dock-ok, (le-ltb words (words_for dock) a.long, (allows-iff x (repaired t)).1 a.allows))))),
+      λ a. i.1 (
+        (not-false-iff _).1 a.header,
+        (
+          a.collection,
+          (
+            (not-false-iff _).1 a.sound,
+            (le-ltb 1 dock a.dock-ok, (le-ltb words (words_for dock) a.long, (allows-iff x (repaired t)).1 a.allows)),
+          ),
+        ),
+      ),
     )

@@ -1,10 +1,6 @@
 -- Two orderly trees over the same nodes: they share a node only if they share their last leaf.
-use mathlib.Core.Path.{◌≡◌, refl, ap, sym, ◌∙◌}
-use mathlib.Core.Bool.{true}
-use mathlib.Core.Logic.{◌≢◌}
-use mathlib.Core.List.{List, [], ◌∷◌, ◌++◌, Memᴰ}
-use Prim.Native.Nat.{ℕ, zero, suc, ◌≤◌}
-use native.Mathlib.Omega.{arith}
+use Rattle.std.proofs.Common.{◌≡◌, ℕ, zero, suc, ◌≤◌, true, ◌≢◌, List, [], ◌∷◌, ◌++◌, sym, refl, ap, ◌∙◌, arith}
+use mathlib.Core.List.{Memᴰ}
 use Rattle.model.specs.Slots.{View, height}
 use Rattle.model.specs.Reached.{head_or, flat, children, reached, leaves, fill_row, kept, first_child, named, next_child}
 use Rattle.model.specs.Search.{below}
@@ -49,7 +45,8 @@ module _ (v : View) where
   end-of e n (m ∷ ms) l s (Memᴰ.head q) = record { rest = ms; chain = rw q l; some = s.1; last = rw q }
   end-of e n (m ∷ ms) l s (Memᴰ.tail h) = end-of m n ms ((linked-cons v m ms 0).0 l).1 s.1 h
 
-  same-last : (n : ℕ) (ns ms : List ℕ) → linked v ns 0 ≡ true → linked v ms 0 ≡ true → Each Some ns → Each Some ms → Memᴰ n ns → Memᴰ n ms → last_or 0 ns ≡ last_or 0 ms
+  same-last : (n : ℕ) (ns ms : List ℕ) → linked v ns 0 ≡ true → linked v ms 0 ≡ true → Each Some ns → Each Some ms → Memᴰ n ns → Memᴰ n ms
+      → last_or 0 ns ≡ last_or 0 ms
   same-last n ns ms a b p q h k =
       let x = end-of 0 n ns a p h in
       let y = end-of 0 n ms b q k in
@@ -69,15 +66,18 @@ module _ (v : View) where
   kids-some : (d n : ℕ) → Good v n → At v (suc d) n → head_or 0 (children v n) ≢ 0
   kids-some d n g a q =
       let i = inner v d n g a.level in
-      let e : head_or 0 (children v n) ≡ (v.node n).left = ap (head_or 0) (children-inner v d n a.level) ∙ head-row v (named v n) (next_child v n) 0 in
+      let e : head_or 0 (children v n) ≡ (v.node n).left =
+      ap (head_or 0) (children-inner v d n a.level) ∙ head-row v (named v n) (next_child v n) 0 in
       not-zero v (v.node n).left (left-range v d n i) (sym e ∙ q)
 
-  last-flat : (d e n : ℕ) (ns : List ℕ) → Each (Good v) (n ∷ ns) → Each (At v (suc d)) (n ∷ ns) → last_or e (flat (children v) (n ∷ ns)) ≡ last_or e (children v (last_or n ns))
+  last-flat : (d e n : ℕ) (ns : List ℕ) → Each (Good v) (n ∷ ns) → Each (At v (suc d)) (n ∷ ns) → last_or e (flat (children v) (n ∷ ns))
+      ≡ last_or e (children v (last_or n ns))
   unfolding flat last_or
   last-flat d e n [] g a = last-append e (children v n) []
   last-flat d e n (m ∷ ns) g a =
       last-append e (children v n) (flat (children v) (m ∷ ns)) ∙ last-flat d (last_or e (children v n)) m ns g.1 a.1
-      ∙ last-any (last_or e (children v n)) e (children v (last_or m ns)) (kids-some d (last_or m ns) (each-last (Good v) m ns g.1) (each-last (At v (suc d)) m ns a.1))
+      ∙ last-any (last_or e (children v n)) e (children v (last_or m ns))
+      (kids-some d (last_or m ns) (each-last (Good v) m ns g.1) (each-last (At v (suc d)) m ns a.1))
 
   pub down-last : (d : ℕ) (ns : List ℕ) → Level v (suc d) ns → last_or 0 (flat (children v) ns) ≡ last_or 0 (children v (last_or 0 ns))
   unfolding last_or
@@ -100,19 +100,23 @@ module _ (v : View) (r : ℕ) (o : Orderly v) (q : Orderly (with_root v r)) wher
   abbrev w : View
   w = with_root v r
 
-  leaf-last : (d : ℕ) → d ≤ height v → d ≤ height w → last_or 0 (row_at v d) ≡ last_or 0 (row_at w d) → last_or 0 (leaves v) ≡ last_or 0 (leaves w)
+  leaf-last : (d : ℕ) → d ≤ height v → d ≤ height w → last_or 0 (row_at v d) ≡ last_or 0 (row_at w d)
+      → last_or 0 (leaves v) ≡ last_or 0 (leaves w)
   leaf-last zero a b e = sym (ap (last_or 0) (row-leaves v)) ∙ e ∙ ap (last_or 0) (row-leaves w)
   leaf-last (suc d) a b e =
       let x = ap (last_or 0) (row-below v d a) ∙ down-last v d (row_at v (suc d)) (level-at v (suc d) o a) in
       let y = ap (last_or 0) (row-below w d b) ∙ down-last w d (row_at w (suc d)) (level-at w (suc d) q b) in
-      leaf-last d (omega arith) (omega arith) (x ∙ ap (λ (n : ℕ). last_or 0 (children v n)) e ∙ sym (ap (last_or 0) (children-root v r (last_or 0 (row_at w (suc d))))) ∙ sym y)
+      leaf-last d (omega arith) (omega arith)
+      (x ∙ ap (λ (n : ℕ). last_or 0 (children v n)) e ∙ sym (ap (last_or 0) (children-root v r (last_or 0 (row_at w (suc d))))) ∙ sym y)
 
   -- Two trees that share a node share their last leaf.
-  pub shared-last : (n : ℕ) → Memᴰ n (reached v) → Memᴰ n (reached (with_root v r)) → last_or 0 (leaves v) ≡ last_or 0 (leaves (with_root v r))
+  pub shared-last : (n : ℕ) → Memᴰ n (reached v) → Memᴰ n (reached (with_root v r)) → last_or 0 (leaves v)
+      ≡ last_or 0 (leaves (with_root v r))
   shared-last n a b =
       let x = reached-row v n o a in
       let y = reached-row w n q b in
       let l = (level-at v (v.node n).level o x.level).row in
       let m = (level-at w (v.node n).level q y.level).row in
       leaf-last (v.node n).level x.level y.level
-      (same-last v n (row_at v (v.node n).level) (row_at w (v.node n).level) l.chain (linked-root v r (row_at w (v.node n).level) m.chain) (row-some v _ _ l) (row-some w _ _ m) x.row y.row)
+      (same-last v n (row_at v (v.node n).level) (row_at w (v.node n).level) l.chain (linked-root v r (row_at w (v.node n).level) m.chain)
+      (row-some v _ _ l) (row-some w _ _ m) x.row y.row)

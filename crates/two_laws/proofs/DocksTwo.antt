@@ -1,10 +1,6 @@
 -- Calls for either dock: without its barriers the list of every call is dock 0's; what the counts come to, and that the list fits; the
 -- refusals that the docks share.
-use mathlib.Core.Path.{◌≡◌, refl, sym, ap, ◌∙◌}
-use Prim.Native.Nat.{ℕ, zero, suc, ◌+◌, ◌*◌, ◌≤◌}
-use native.Mathlib.Omega.{arith}
-use borrow.Author.Tests.{le-ltb}
-use lib.ListN.{length, take}
+use Rattle.std.proofs.Common.{◌≡◌, ℕ, zero, suc, ◌+◌, ◌*◌, ◌≤◌, length, take, sym, refl, ap, ◌∙◌, arith, le-ltb}
 use Rattle.model.specs.Table.{Words}
 use Rattle.model.specs.SoundTest.{sound}
 use Rattle.model.specs.Orders.{orders, without_barriers, store_count, flush_count, barrier_count, decode}
@@ -31,7 +27,8 @@ barrier-each x t =
     omega (arith, with-barrier_count (orders (stores_of x t)), no-barriers x t, barred-store_count 1 (orders (stores_of x t)))
 
 -- With a list that is long enough a call is refused for either dock as for dock 0.
-pub same-refusal : (x : Call) (words dock words' : ℕ) (t : Words) → dock ≤ 1 → words_for dock ≤ words → 2560 ≤ words' → refusal x words dock t ≡ refusal x words' 0 t
+pub same-refusal : (x : Call) (words dock words' : ℕ) (t : Words) → dock ≤ 1 → words_for dock ≤ words → 2560 ≤ words'
+    → refusal x words dock t ≡ refusal x words' 0 t
 unfolding refusal
 same-refusal x words dock words' t a b c = rw (le-ltb 1 dock a, le-ltb words (words_for dock) b, le-ltb words' 2560 c)
 
@@ -55,7 +52,8 @@ module _ (x : Call) (words dock : ℕ) (t : Words) (ok : refusal x words dock t 
   pub list-fits : 2 * length (orders_of x dock t) ≤ words
   list-fits =
       let a = ((accepted-iff x words dock t).0 ok).long in
-      let b = words-room dock (length (orders_of x dock t)) (omega (arith, few, barred-length dock (orders (stores_of x t)))) (λ e. rw e few) in
+      let b = words-room dock (length (orders_of x dock t))
+      (omega (arith, few, barred-length dock (orders (stores_of x t)))) (λ e. rw e few) in
       omega arith
 
 -- the orders that it answered, read back from the lent list
@@ -64,7 +62,8 @@ pub call-read : (x : Call) (lent : Words) (dock : ℕ) (t : Words) → refusal x
 unfolding written list_after
 call-read x lent dock t ok =
     let a = (accepted-iff x (length lent) dock t).0 ok in
-    rw (ok, counts-length (orders_of x dock t)) (list-read-back dock (stores_of x t) lent t a.header (accepted-steps x (length lent) dock t a.sound ok).stores-inside)
+    rw (ok, counts-length (orders_of x dock t))
+    (list-read-back dock (stores_of x t) lent t a.header (accepted-steps x (length lent) dock t a.sound ok).stores-inside)
 
 -- So the words of the two lists, read back, differ by the barriers alone.
 pub docks-agree : (x : Call) (lent : Words) (dock : ℕ) (lent' t : Words) → refusal x (length lent) dock t ≡ 0 → 2560 ≤ length lent'

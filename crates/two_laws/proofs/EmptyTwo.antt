@@ -1,14 +1,7 @@
 -- The empty table of one or two collections is settled, and its maps are empty.
-use mathlib.Core.Path.{◌≡◌, refl, ap, ◌∙◌}
-use mathlib.Core.Bool.{true, false}
-use mathlib.Core.Logic.{◌≢◌, ◌⊎◌, inl, inr}
-use mathlib.Core.List.{[], ◌∷◌}
+use Rattle.std.proofs.Common.{◌≡◌, ℕ, ◌+◌, ◌*◌, ◌<◌, ◌≤◌, true, false, eqb, ◌≢◌, ◌⊎◌, [], ◌∷◌, length, set, replicate, refl, ap, ◌∙◌, inl}
+use Rattle.std.proofs.Common.{inr, arith, length-set, get_or-set_other, get_or-set_same}
 use mathlib.Core.Option.{none, some}
-use Prim.Native.Nat.{ℕ, ◌+◌, ◌*◌, ◌≤◌, ◌<◌}
-use native.Mathlib.Omega.{arith}
-use lib.Dec.{eqb}
-use lib.ListN.{length, replicate, set, length-set}
-use lib.Seq.{get_or-set_same, get_or-set_other}
 use Rattle.model.specs.declared.Node.{Node}
 use Rattle.model.specs.Table.{MARK, Words, at, nodes, in_range, node_start, has_node, node, spare, blank, table_length, empty, empty_of}
 use Rattle.model.specs.Slots.{node_view}
@@ -22,7 +15,8 @@ use Rattle.table_laws.proofs.Nodes.{has-node-iff}
 use Rattle.table_laws.proofs.Empty.{length-empty, empty-header, empty-blank, empty-spare}
 use Rattle.word_laws.proofs.Outside.{Outside, outside-start, outside-store, outside-wider}
 use Rattle.word_laws.proofs.HeadStores.{node-head, spare-head}
-use Rattle.word_laws.proofs.Frames.{Elsewhere, view-else, view-same, left-stored, sibling-same, level-same, fence-same, slots-same, spare-same}
+use Rattle.word_laws.proofs.Frames.{Elsewhere, view-else, view-same, left-stored, sibling-same, level-same, fence-same, slots-same}
+use Rattle.word_laws.proofs.Frames.{spare-same}
 use Rattle.tree_laws.proofs.Rows.{range-iff}
 use Rattle.change_laws.proofs.EmptyRoot.{root-alone, map-none, empty-left}
 use Rattle.step_laws.proofs.EmptyTable.{empty_leaf, leaf-view, first-leaf}
@@ -99,7 +93,8 @@ module _ (n : ℕ) (low : 2 ≤ n) (high : n ≤ 65535) where
   else = outside-wider (node_start 2) 1 (node_start 2) 32 t₁ t₂ (omega arith) (omega arith) one
 
   first : node_view t₂ 1 ≡ new_node MARK 0 0 0 []
-  first = (view-else t₁ t₂ 2 else (omega arith)).else 1 (λ e. omega arith) ∙ view-same t₀ t₁ 1 (node-head t₀ 3 2 1 (omega arith)) (spare-head t₀ 3 2 1 (omega arith)) ∙ first-leaf n (omega arith)
+  first = (view-else t₁ t₂ 2 else (omega arith)).else 1 (λ e. omega arith)
+      ∙ view-same t₀ t₁ 1 (node-head t₀ 3 2 1 (omega arith)) (spare-head t₀ 3 2 1 (omega arith)) ∙ first-leaf n (omega arith)
 
   blank₁ : node t₁ 2 ≡ blank
   blank₁ = node-head t₀ 3 2 2 (omega arith) ∙ empty-blank n 2 (λ e. omega arith)
@@ -116,7 +111,8 @@ module _ (n : ℕ) (low : 2 ≤ n) (high : n ≤ 65535) where
 
   spare-two : spare t₂ 2 ≡ replicate 4 0
   unfolding node_start
-  spare-two = spare-same (node_start 2) 1 t₁ t₂ one 2 (λ w a b c d. omega arith) ∙ spare-head t₀ 3 2 2 (omega arith) ∙ empty-spare n 2 (omega arith) low
+  spare-two = spare-same (node_start 2) 1 t₁ t₂ one 2 (λ w a b c d. omega arith) ∙ spare-head t₀ 3 2 2 (omega arith)
+      ∙ empty-spare n 2 (omega arith) low
 
   second : node_view t₂ 2 ≡ new_node MARK 0 0 0 []
   second = leaf-view t₂ 2 second-words spare-two
@@ -127,7 +123,8 @@ module _ (n : ℕ) (low : 2 ≤ n) (high : n ≤ 65535) where
 
   three : at t₂ 3 ≡ 2
   unfolding node_start
-  three = one.same 3 (λ a b. omega arith) ∙ get_or-set_same t₀ 3 2 0 (omega (arith, long, length-set t₁ (node_start 2) MARK, length-set t₀ 3 2))
+  three = one.same 3 (λ a b. omega arith)
+      ∙ get_or-set_same t₀ 3 2 0 (omega (arith, long, length-set t₁ (node_start 2) MARK, length-set t₀ 3 2))
 
   count : nodes t₂ ≡ n
   unfolding empty
@@ -173,19 +170,25 @@ module _ (n : ℕ) (low : 2 ≤ n) (high : n ≤ 65535) where
 
   two-maps : maps_of t₂ ≡ record { one = []; two = some [] }
   unfolding maps_of
-  two-maps = λ i. record { one = map-none (tree_at 1 t₂) leaf-one in-one i; two = unless_lacking (ap (λ (x : ℕ). eqb x 0) three i) (map-none (tree_at 3 t₂) leaf-two in-two i) }
+  two-maps = λ i. record {
+    one = map-none (tree_at 1 t₂) leaf-one in-one i;
+    two = unless_lacking (ap (λ (x : ℕ). eqb x 0) three i) (map-none (tree_at 3 t₂) leaf-two in-two i);
+  }
 
 -- ---- as the making chose
 
+-- the empty table of 1 or 2 collections, with at least a node for each, is settled
 pub empty-settled : (n N : ℕ) → (n ≡ 1) ⊎ (n ≡ 2) → n ≤ N → N ≤ 65535 → settled (empty_of n N) ≡ true
 unfolding empty_of
 empty-settled n N (inl e) low high = rw e (one-settled N (omega arith) high)
 empty-settled n N (inr e) low high = rw e (two-settled N (omega arith) high)
 
+-- the empty table of one collection has an empty map, and no second
 pub empty-one-maps : (N : ℕ) → 1 ≤ N → N ≤ 65535 → maps_of (empty_of 1 N) ≡ record { one = []; two = none }
 unfolding empty_of
 empty-one-maps N low high = one-maps N low high
 
+-- the empty table of two collections has two empty maps
 pub empty-two-maps : (N : ℕ) → 2 ≤ N → N ≤ 65535 → maps_of (empty_of 2 N) ≡ record { one = []; two = some [] }
 unfolding empty_of
 empty-two-maps N low high = two-maps N low high

@@ -1,24 +1,21 @@
 -- A leaf that a deletion empties, and that is not its parent's leftmost child, is free after it, for either collection; a cut in between
 -- leaves an ordinary leftover, and repair attaches the leaf again.
-use mathlib.Core.Path.{◌≡◌, ap, sym, ◌∙◌}
-use mathlib.Core.Bool.{Bool, true, false}
-use mathlib.Core.List.{List, ◌++◌, append_assoc}
-use Prim.Native.Nat.{ℕ, suc, ◌+◌, ◌-◌, ◌<◌}
-use native.Mathlib.Omega.{arith}
-use lib.ListN.{length, take}
-use lib.Seq.{take_all}
+use Rattle.std.proofs.Common.{◌≡◌, ℕ, suc, ◌+◌, ◌-◌, ◌<◌, Bool, true, false, List, ◌++◌, length, take, sym, ap, ◌∙◌, append_assoc, arith}
+use Rattle.std.proofs.Common.{take_all}
 use Rattle.model.specs.Table.{Words, root_word, no_collection}
 use Rattle.model.specs.SoundTest.{nothing, sound, settled}
 use Rattle.model.specs.Orders.{Store, apply}
 use Rattle.model.specs.Refusals.{has_key}
 use Rattle.model.specs.Reached.{reached_all, map_of}
-use Rattle.model.specs.Writes.{shift_out_at, free_stores, repair_stores, repaired, standing, frees_leaf, delete_settled, delete_stores, FreeAfter}
+use Rattle.model.specs.Writes.{shift_out_at, free_stores, repair_stores, repaired, standing, frees_leaf, delete_settled, delete_stores}
+use Rattle.model.specs.Writes.{FreeAfter}
 use Rattle.list_laws.proofs.Lists.{take-append}
 use Rattle.cut_laws.proofs.Applying.{apply-append}
 use Rattle.two_laws.proofs.TwoLaw.{Tree, Low}
 use Rattle.two_laws.proofs.Leaf.{leaf-out}
 use Rattle.two_laws.proofs.Arrange.{Arr, arr-low, arr-covers, course-arr, settled-tree}
-use Rattle.two_laws.proofs.DeleteTwo.{Lacks, stores-freeing, delete-course, can-free, free-two-cut, out-reached, settled-frees, settled-stays}
+use Rattle.two_laws.proofs.DeleteTwo.{Lacks, stores-freeing, delete-course, can-free, free-two-cut, out-reached, settled-frees}
+use Rattle.two_laws.proofs.DeleteTwo.{settled-stays}
 use Rattle.two_laws.proofs.CallsTwo.{repairs, arranged, is-repaired, delete-two}
 use Rattle.two_laws.proofs.AcceptedTwo.{there}
 use Rattle.two_laws.proofs.JudgedTwo.{reached-later, unreachable-later}
@@ -27,7 +24,8 @@ use Rattle.two_laws.proofs.JudgedTwo.{reached-later, unreachable-later}
 abbrev pub SettledReach : List ℕ → Words → Type 0
 SettledReach ns t = (settled t ≡ true) × (reached_all t ≡ ns)
 
-module _ (n : ℕ) (t : Words) (s : sound t ≡ true) (h : no_collection n t ≡ false) (k : ℕ) (has : has_key k (map_of n (repaired t)) ≡ true) where
+module _ (n : ℕ) (t : Words) (s : sound t ≡ true) (h : no_collection n t ≡ false) (k : ℕ)
+    (has : has_key k (map_of n (repaired t)) ≡ true) where
   abbrev w : ℕ
   w = root_word n
 
@@ -54,7 +52,8 @@ module _ (n : ℕ) (t : Words) (s : sound t ≡ true) (h : no_collection n t ≡
   abbrev frees : Bool
   frees = frees_leaf n (repaired t) parent leaf
 
-  pub delete-frees : frees_leaf n (repaired t) (standing n (repaired t) 1 k) (standing n (repaired t) 0 k) ≡ true → FreeAfter t (standing n (repaired t) 0 k) (apply (delete_stores n t k) t)
+  pub delete-frees : frees_leaf n (repaired t) (standing n (repaired t) 1 k) (standing n (repaired t) 0 k) ≡ true
+      → FreeAfter t (standing n (repaired t) 0 k) (apply (delete_stores n t k) t)
   delete-frees e =
       let ws = beside.0 in
       let f = settled-frees n ws (repaired t) beside.1 tree k has e in
@@ -66,7 +65,8 @@ module _ (n : ℕ) (t : Words) (s : sound t ≡ true) (h : no_collection n t ≡
       })
 
   -- After any other deletion the same nodes are reached.
-  pub delete-stays : frees_leaf n (repaired t) (standing n (repaired t) 1 k) (standing n (repaired t) 0 k) ≡ false → reached_all (apply (delete_stores n t k) t) ≡ reached_all t
+  pub delete-stays : frees_leaf n (repaired t) (standing n (repaired t) 1 k) (standing n (repaired t) 0 k) ≡ false
+      → reached_all (apply (delete_stores n t k) t) ≡ reached_all t
   delete-stays e = ap reached_all after-all ∙ settled-stays n beside.0 (repaired t) beside.1 tree k has e ∙ reached-later t s
 
   -- ---- a cut in between
@@ -83,23 +83,33 @@ module _ (n : ℕ) (t : Words) (s : sound t ≡ true) (h : no_collection n t ≡
 
   stores-all : frees ≡ true → delete_stores n t k ≡ before ++ last
   unfolding delete_stores
-  stores-all e = ap (λ (us : List Store). repair_stores t ++ us) (stores-freeing n (repaired t) k e) ∙ sym (append_assoc (repair_stores t) (shift_out_at (repaired t) leaf k) last)
+  stores-all e = ap (λ (us : List Store). repair_stores t ++ us) (stores-freeing n (repaired t) k e)
+      ∙ sym (append_assoc (repair_stores t) (shift_out_at (repaired t) leaf k) last)
 
   cut-table : frees ≡ true → (i : ℕ) → apply (take (length before + i) (delete_stores n t k)) t ≡ apply (take i last) emptied
   unfolding repaired
   cut-table e i =
       let m : length before + i - length before ≡ i = omega arith in
       ap (λ (us : List Store). apply (take (length before + i) us) t) (stores-all e)
-      ∙ ap (λ (us : List Store). apply us t) (take-append (length before + i) before last ∙ ap (λ (us : List Store). us ++ take (length before + i - length before) last) (take_all (length before + i) before (omega arith)))
+      ∙ ap (λ (us : List Store). apply us t)
+      (take-append (length before + i) before last
+      ∙ ap (λ (us : List Store). us ++ take (length before + i - length before) last)
+      (take_all (length before + i) before (omega arith)))
       ∙ apply-append before (take (length before + i - length before) last) t
-      ∙ ap (apply (take (length before + i - length before) last)) (apply-append (repair_stores t) (shift_out_at (repaired t) leaf k) t) ∙ ap (λ (m : ℕ). apply (take m last) emptied) m
+      ∙ ap (apply (take (length before + i - length before) last)) (apply-append (repair_stores t) (shift_out_at (repaired t) leaf k) t)
+      ∙ ap (λ (m : ℕ). apply (take m last) emptied) m
 
   -- After the parent's first store and before the last one the freed leaf lacks its slot, and repair attaches it again.
   pub delete-cut : frees ≡ true → (i : ℕ) → 0 < i → i < length last
-      → Lacks w emptied parent leaf (apply (take (length before + i) (delete_stores n t k)) t) × SettledReach (reached_all t) (repaired (apply (take (length before + i) (delete_stores n t k)) t))
+      → Lacks w emptied parent leaf (apply (take (length before + i) (delete_stores n t k)) t)
+      × SettledReach (reached_all t) (repaired (apply (take (length before + i) (delete_stores n t k)) t))
   delete-cut e i g j =
       let ws = beside.0 in
       let out = leaf-out w ws (repaired t) low tree k has in
-      let c = free-two-cut w ws emptied low out.whole parent leaf (can-free n ws (repaired t) beside.1 tree k has e) i g j (course-arr 25 w ws (repaired t) _ _ out beside.1) in
+      let c = free-two-cut w ws emptied low out.whole parent leaf (can-free n ws (repaired t) beside.1 tree k has e) i g j
+      (course-arr 25 w ws (repaired t) _ _ out beside.1) in
       let sj = rw (cut-table e i) at ((delete-two n t s (there n t h).1 k has).part-sound (length before + i)) in
-      rw (cut-table e i) (c, ((repairs _ sj).settles, reached-later _ sj ∙ c.reached ∙ out-reached n ws (repaired t) beside.1 tree k has ∙ reached-later t s))
+      rw (cut-table e i) (
+        c,
+        ((repairs _ sj).settles, reached-later _ sj ∙ c.reached ∙ out-reached n ws (repaired t) beside.1 tree k has ∙ reached-later t s),
+      )

@@ -1,9 +1,5 @@
 -- The last leaf of an orderly tree: from the root down by the last child.
-use mathlib.Core.Path.{◌≡◌, refl, ap, sym, ◌∙◌}
-use mathlib.Core.Bool.{Bool, true, false}
-use mathlib.Core.List.{List, [], ◌∷◌}
-use Prim.Native.Nat.{ℕ, zero, suc}
-use lib.Dec.{eqb}
+use Rattle.std.proofs.Common.{◌≡◌, ℕ, zero, suc, Bool, true, false, eqb, List, [], ◌∷◌, sym, refl, ap, ◌∙◌}
 use Rattle.model.specs.Slots.{View, height}
 use Rattle.model.specs.Reached.{flat, fill_row, first_child, named, pointers, kept, children, leaves, leaves_from}
 use Rattle.model.specs.SoundTest.{linked}
@@ -31,7 +27,8 @@ module _ (v : View) where
   last-child : (d e n : ℕ) → (v.node n).level ≡ suc d → (v.node n).sibling ≡ 0 → last_or e (children v n) ≡ last_child v n
   unfolding last_or first_child
   last-child d e n l z =
-      ap (last_or e) (children-inner v d n l) ∙ ap (λ (s : ℕ). last_or e (fill_row v (named v n) (first_child v s))) z ∙ last-fill e (v.node n).left (pointers (kept v n))
+      ap (last_or e) (children-inner v d n l) ∙ ap (λ (s : ℕ). last_or e (fill_row v (named v n) (first_child v s))) z
+      ∙ last-fill e (v.node n).left (pointers (kept v n))
 
   -- the last node of a row has no sibling
   last-sibling : (n : ℕ) (ns : List ℕ) → linked v (n ∷ ns) 0 ≡ true → (v.node (last_or n ns)).sibling ≡ 0

@@ -1,11 +1,5 @@
 -- The leaf for a key. Stores to the slots of a leaf leave all nodes reached as they were.
-use mathlib.Core.Path.{◌≡◌, sym, ap, ◌∙◌}
-use mathlib.Core.Bool.{Bool, not}
-use mathlib.Core.Logic.{◌≢◌, ◌⊎◌, inl, inr}
-use mathlib.Core.List.{List, [], ◌∷◌, ◌++◌, map}
-use Prim.Native.Nat.{ℕ, ◌+◌, ◌≤◌, ◌<◌}
-use native.Mathlib.Omega.{arith}
-use lib.ListN.{length}
+use Rattle.std.proofs.Common.{◌≡◌, ℕ, ◌+◌, ◌<◌, ◌≤◌, Bool, not, ◌≢◌, ◌⊎◌, List, [], ◌∷◌, ◌++◌, map, length, sym, ap, ◌∙◌, inl, inr, arith}
 use Rattle.model.specs.Table.{Words, at, nodes, node_start, node}
 use Rattle.model.specs.Slots.{Slot, NodeView, View, node_view, view_from, view_of, height}
 use Rattle.model.specs.Search.{below}
@@ -56,7 +50,8 @@ module _ (v : View) (g : ℕ → List Slot) (h : ℕ → ℕ) (c : ℕ → Bool)
   -- in a leaf alone
   leaf-reached : (x : ℕ) → (v.node x).level ≡ 0 → ((n : ℕ) → n ≢ x → g n ≡ (v.node n).shown) → reached (slots_by v g h c) ≡ reached v
   leaf-reached x z e = reached-agree v (slots_by v g h c) (height v) (v.root ∷ []) (mem-each _ (reached v) (λ n m.
-      at-or-off (λ (n : ℕ). children (slots_by v g h c) n ≡ children v n) x (no-children (slots_by v g h c) x z ∙ sym (no-children v x z)) (λ n y. own-children n (e n y)) n))
+      at-or-off (λ (n : ℕ). children (slots_by v g h c) n ≡ children v n) x (no-children (slots_by v g h c) x z ∙ sym (no-children v x z))
+      (λ n y. own-children n (e n y)) n))
 
 -- ---- the table
 
@@ -89,7 +84,8 @@ module _ (t t' : Words) (x : ℕ) (some : 1 ≤ x) (leaf : (node t x).level ≡ 
   low w h = o.same w (λ p q. unfold node_start in omega arith)
 
   abbrev other-slots : ℕ → View
-  other-slots r = slots_by (view_from t r) (λ (n : ℕ). (node_view t' n).shown) (λ (n : ℕ). (node_view t' n).hidden) (λ (n : ℕ). (node_view t' n).clear)
+  other-slots r = slots_by (view_from t r) (λ (n : ℕ). (node_view t' n).shown) (λ (n : ℕ). (node_view t' n).hidden)
+      (λ (n : ℕ). (node_view t' n).clear)
 
   seen-same : (r : ℕ) → view_from t' r ≡ other-slots r
   seen-same r = λ i. record {
@@ -117,25 +113,31 @@ module _ (t t' : Words) (x : ℕ) (some : 1 ≤ x) (leaf : (node t x).level ≡ 
       go : (at t 3 ≡ 0) ⊎ (at t 3 ≢ 0) → reached_all t' ≡ reached_all t
       go (inl z) = all-one t' (low 3 (omega arith) ∙ z) ∙ ap (λ (l : List ℕ). l ++ []) (tree-same 1 (omega arith)) ∙ sym (all-one t z)
       go (inr z) =
-          all-two t' (λ y. z (sym (low 3 (omega arith)) ∙ y)) ∙ ap (λ (l : List ℕ). l ++ (reached (tree_at 3 t') ++ [])) (tree-same 1 (omega arith))
+          all-two t' (λ y. z (sym (low 3 (omega arith)) ∙ y))
+          ∙ ap (λ (l : List ℕ). l ++ (reached (tree_at 3 t') ++ [])) (tree-same 1 (omega arith))
           ∙ ap (λ (l : List ℕ). reached (tree_at 1 t) ++ (l ++ [])) (tree-same 3 (omega arith)) ∙ sym (all-two t z)
 
 -- ---- the stores
 
-pub outside-apply : (a n : ℕ) (t : Words) (ss : List Store) (t' : Words) → Each (Into a n) ss → Outside a n t t' → Outside a n t (apply ss t')
+-- stores to a stretch of words change no word outside it
+pub outside-apply : (a n : ℕ) (t : Words) (ss : List Store) (t' : Words) → Each (Into a n) ss → Outside a n t t'
+    → Outside a n t (apply ss t')
 unfolding apply
 outside-apply a n t [] t' i o = o
 outside-apply a n t (s ∷ ss) t' i o = outside-apply a n t ss (do_store s t') i.1 (outside-store a n t t' s i.0 o)
 
+-- stores to the 12 slots of node x go to its 24 slot words
 pub slots-into : (x : ℕ) (qs : List SlotStore) → Each (Below 12) qs → Each (Into (node_start x + 8) 24) (map (in_node x) qs)
 slots-into x [] b = tt
 slots-into x (q ∷ qs) b = (slot-into x q b.0, slots-into x qs b.1)
 
+-- shifting a slot into node x, if there is room, goes to its 24 slot words
 pub shift-in-into : (t : Words) (x k y : ℕ) → length (node_view t x).shown ≤ 10 → Each (Into (node_start x + 8) 24) (shift_in_at t x k y)
 unfolding shift_in_at
 shift-in-into t x k y few =
     let ss = (node_view t x).shown in
-    slots-into x (shift_in (node_view t x).left ss (place_of k ss) k y) (shift-in-places (node_view t x).left ss (place_of k ss) k y 12 (place-length k ss) (omega arith))
+    slots-into x (shift_in (node_view t x).left ss (place_of k ss) k y)
+    (shift-in-places (node_view t x).left ss (place_of k ss) k y 12 (place-length k ss) (omega arith))
 
 module _ (t : Words) (x : ℕ) (some : 1 ≤ x) (leaf : (node t x).level ≡ 0) where
   outside : (ss : List Store) → Each (Into (node_start x + 8) 24) ss → Outside (node_start x + 8) 24 t (apply ss t)
@@ -146,14 +148,17 @@ module _ (t : Words) (x : ℕ) (some : 1 ≤ x) (leaf : (node t x).level ≡ 0) 
 
   -- a pair shifted in, where there is room
   module _ (k y : ℕ) (room : length (node_view t x).shown ≤ 10) where
+    -- shifting a slot into a leaf changes none of the nodes reached
     pub in-reached : reached_all (apply (shift_in_at t x k y) t) ≡ reached_all t
     in-reached = into-reached _ (shift-in-into t x k y room)
 
+    -- shifting a slot into a leaf changes none of the unreachable nodes
     pub in-unreachable : unreachable (apply (shift_in_at t x k y) t) ≡ unreachable t
     unfolding unreachable unreached
     in-unreachable =
         ap (λ (l : List ℕ). filter (λ (m : ℕ). not (elem m l)) (numbers 1 (nodes (apply (shift_in_at t x k y) t)))) in-reached
-        ∙ ap (λ (N : ℕ). filter (λ (m : ℕ). not (elem m (reached_all t))) (numbers 1 N)) (low t _ x some leaf (outside _ (shift-in-into t x k y room)) 2 (omega arith))
+        ∙ ap (λ (N : ℕ). filter (λ (m : ℕ). not (elem m (reached_all t))) (numbers 1 N))
+        (low t _ x some leaf (outside _ (shift-in-into t x k y room)) 2 (omega arith))
 
   -- another class, where the key is
   pub class-reached : (k c : ℕ) → length (node_view t x).shown ≤ 11 → reached_all (apply (set_class_at t x k c) t) ≡ reached_all t
@@ -168,6 +173,7 @@ pub record Leaf (t : Words) (x : ℕ) : Type 0 where
   pub level : (node t x).level ≡ 0
   pub few : length (node_view t x).shown ≤ 11
 
+-- in an orderly tree the node for k on level 0 is a leaf with at most 11 slots shown
 pub leaf-for : (n : ℕ) (t : Words) (k : ℕ) → Orderly (view_of n t) → Leaf t (standing n t 0 k)
 unfolding standing_in
 leaf-for n t k o =

@@ -1,13 +1,9 @@
 -- A call's number on a sound table of one or two collections is the ledger's, fed a 10 or 11; a search answers as the ledger.
-use mathlib.Core.Path.{◌≡◌, refl, ap, sym, ◌∙◌}
-use mathlib.Core.Logic.{◌≢◌}
-use mathlib.Core.Bool.{Bool, true, false, cond, not, ◌&&◌, ◌||◌, false≢true}
-use mathlib.Core.List.{List, [], ◌∷◌, map}
+use Rattle.std.proofs.Common.{◌≡◌, ℕ, Bool, true, false, cond, not, ◌&&◌, ◌||◌, eqb, ◌≢◌, List, [], ◌∷◌, map, sym, refl, ap, ◌∙◌, arith}
+use Rattle.std.proofs.Common.{eq-eqb, ne_eqb, eqb-true}
+use mathlib.Core.Bool.{false≢true}
 use mathlib.Core.Option.{Option, none, some}
-use Prim.Native.Nat.{ℕ}
-use native.Mathlib.Omega.{arith}
-use lib.Dec.{eqb}
-use borrow.Author.Tests.{eqb-true, eqb-false, eq-eqb, ne_eqb}
+use borrow.Author.Tests.{eqb-false}
 use Rattle.model.specs.declared.Answer.TheVariants.{Refused}
 use Rattle.model.specs.Table.{Words, at, no_collection}
 use Rattle.model.specs.Slots.{Slot}
@@ -25,7 +21,8 @@ use Rattle.two_laws.proofs.JudgedTwo.{own-later}
 
 pub list-there : (n : ℕ) (t : Words) → no_collection n t ≡ false → list_in n (maps_of t) ≡ some (map_of n t)
 unfolding maps_of
-list-there n t h = by-number t (λ (n : ℕ). list_in n (maps_of t) ≡ some (map_of n t)) refl (λ z. ap (λ (b : Bool). unless_lacking b (map_of 2 t)) (ne_eqb (at t 3) 0 z)) n h
+list-there n t h = by-number t (λ (n : ℕ). list_in n (maps_of t) ≡ some (map_of n t)) refl
+    (λ z. ap (λ (b : Bool). unless_lacking b (map_of 2 t)) (ne_eqb (at t 3) 0 z)) n h
 
 -- it lacks the lists of collections that are not there
 pub lacking-same : (n : ℕ) (t : Words) → no_collection n t ≡ lacking (list_in n (maps_of t))
@@ -38,6 +35,7 @@ lacking-same n t = go (eqb n 1) (eqb n 2) (eqb (at t 3) 0)
     go false true false = refl
     go false false c = refl
 
+-- of a collection that is not there the maps have no list
 pub list-lacking : (n : ℕ) (t : Words) → no_collection n t ≡ true → list_in n (maps_of t) ≡ none
 list-lacking n t h = go (list_in n (maps_of t)) (sym (lacking-same n t) ∙ h)
   where
@@ -65,10 +63,12 @@ searched n t k s = go (no_collection n t) refl
 abbrev tests : Call → (words dock : ℕ) → Words → List Test
 tests x words dock t = tests_from18 x words dock (eleven_in x (repaired t)) (ten_in x (repaired t)) (own_map x (repaired t))
 
-pub from-eighteen : (x : Call) (words dock : ℕ) (t : Words) → sound t ≡ true → refusal x words dock t ≡ first_number (test (seventeen_in x t) 17 ∷ tests x words dock t)
+pub from-eighteen : (x : Call) (words dock : ℕ) (t : Words) → sound t ≡ true → refusal x words dock t
+    ≡ first_number (test (seventeen_in x t) 17 ∷ tests x words dock t)
 unfolding refusal
 from-eighteen x words dock t s = rw (sound-head t s, s)
 
+-- a call is refused with 17 exactly if the maps lack the list of its collection
 pub seventeen-same : (x : Call) (t : Words) → seventeen_in x t ≡ lacking (list_for x (maps_of t))
 seventeen-same (insertion n k r c) t = lacking-same n t
 seventeen-same (deletion n k) t = lacking-same n t
@@ -115,14 +115,17 @@ refed-first (c ∷ cs) = refed-one c.holds c.number (first_number cs) (λ fed. f
 
 -- the ledger's tests: where the call's number is 10 or 11, it is fed and refuses at that number's place
 fed-number : (x : Call) (words dock : ℕ) (eleven ten : Bool) (ps : List Slot)
-    → (let n = first_number (tests_from18 x words dock eleven ten ps) in first_number (tests_from18 x words dock (eqb (fed_of n) 11) (eqb (fed_of n) 10) ps) ≡ n)
+    → (let n = first_number (tests_from18 x words dock eleven ten ps) in first_number
+    (tests_from18 x words dock (eqb (fed_of n) 11) (eqb (fed_of n) 10) ps) ≡ n)
 fed-number (insertion n k r c) words dock eleven ten ps = refed-first (tests_from18 (insertion n k r c) words dock eleven ten ps)
 fed-number (deletion n k) words dock eleven ten ps = refed-first (tests_from18 (deletion n k) words dock eleven ten ps)
 fed-number (class_change n k c) words dock eleven ten ps = refed-first (tests_from18 (class_change n k c) words dock eleven ten ps)
 fed-number repair words dock eleven ten ps = refed-first (tests_from18 repair words dock eleven ten ps)
 
 -- the same number as in the ledger
-pub number-in-ledger : (x : Call) (words dock : ℕ) (t : Words) → sound t ≡ true → refusal x words dock t ≡ ledger_refusal x false words dock (fed_of (refusal x words dock t)) (maps_of t)
+pub number-in-ledger :
+    (x : Call) (words dock : ℕ) (t : Words) → sound t ≡ true → refusal x words dock t
+    ≡ ledger_refusal x false words dock (fed_of (refusal x words dock t)) (maps_of t)
 number-in-ledger x words dock t s = go (seventeen_in x t) refl
   where
     no-list : seventeen_in x t ≡ true → (m : ℕ) → 17 ≡ ledger_refusal x false words dock m (maps_of t)
@@ -132,17 +135,22 @@ number-in-ledger x words dock t s = go (seventeen_in x t) refl
     own ps = tests_from18 x words dock (eleven_in x (repaired t)) (ten_in x (repaired t)) ps
 
     number : seventeen_in x t ≡ false → refusal x words dock t ≡ first_number (own (own_map x t))
-    number h = from-eighteen x words dock t s ∙ ap (λ (b : Bool). first_number (test b 17 ∷ tests x words dock t)) h ∙ ap (λ (ps : List Slot). first_number (own ps)) (own-later x t s h)
+    number h = from-eighteen x words dock t s ∙ ap (λ (b : Bool). first_number (test b 17 ∷ tests x words dock t)) h
+        ∙ ap (λ (ps : List Slot). first_number (own ps)) (own-later x t s h)
 
-    from-list : seventeen_in x t ≡ false → (m : ℕ) → ledger_refusal x false words dock m (maps_of t) ≡ first_number (tests_from18 x words dock (eqb m 11) (eqb m 10) (own_map x t))
+    from-list : seventeen_in x t ≡ false → (m : ℕ) → ledger_refusal x false words dock m (maps_of t)
+        ≡ first_number (tests_from18 x words dock (eqb m 11) (eqb m 10) (own_map x t))
     from-list h m = unfold ledger_refusal in rw (sym (seventeen-same x t) ∙ h, own-pairs x t h)
 
-    go : (b : Bool) → seventeen_in x t ≡ b → refusal x words dock t ≡ ledger_refusal x false words dock (fed_of (refusal x words dock t)) (maps_of t)
-    go true h = from-eighteen x words dock t s ∙ ap (λ (b : Bool). first_number (test b 17 ∷ tests x words dock t)) h ∙ no-list h (fed_of (refusal x words dock t))
+    go : (b : Bool) → seventeen_in x t ≡ b → refusal x words dock t
+        ≡ ledger_refusal x false words dock (fed_of (refusal x words dock t)) (maps_of t)
+    go true h = from-eighteen x words dock t s ∙ ap (λ (b : Bool). first_number (test b 17 ∷ tests x words dock t)) h
+        ∙ no-list h (fed_of (refusal x words dock t))
     go false h =
         let e = number h in
         let q = fed-number x words dock (eleven_in x (repaired t)) (ten_in x (repaired t)) (own_map x t) in
-        e ∙ sym q ∙ sym (from-list h (fed_of (first_number (own (own_map x t))))) ∙ ap (λ (m : ℕ). ledger_refusal x false words dock (fed_of m) (maps_of t)) (sym e)
+        e ∙ sym q ∙ sym (from-list h (fed_of (first_number (own (own_map x t)))))
+        ∙ ap (λ (m : ℕ). ledger_refusal x false words dock (fed_of m) (maps_of t)) (sym e)
 
 -- ---- 10 and 11 come only on their conditions
 
@@ -165,15 +173,19 @@ pub alone : (b : Bool) → b || false ≡ true → b ≡ true
 alone true e = refl
 alone false e = e
 
-number-holds : (m : ℕ) (x : Call) (words dock : ℕ) (t : Words) → sound t ≡ true → m ≢ 0 → refusal x words dock t ≡ m → holds_for m (test (seventeen_in x t) 17 ∷ tests x words dock t) ≡ true
-number-holds m x words dock t s z e = first-holds m (test (seventeen_in x t) 17 ∷ tests x words dock t) z (sym (from-eighteen x words dock t s) ∙ e)
+number-holds : (m : ℕ) (x : Call) (words dock : ℕ) (t : Words) → sound t ≡ true → m ≢ 0 → refusal x words dock t ≡ m
+    → holds_for m (test (seventeen_in x t) 17 ∷ tests x words dock t) ≡ true
+number-holds m x words dock t s z e =
+    first-holds m (test (seventeen_in x t) 17 ∷ tests x words dock t) z (sym (from-eighteen x words dock t s) ∙ e)
 
+-- on a sound table, a call is refused with 11 only if the repaired table says so
 pub only-eleven : (x : Call) (words dock : ℕ) (t : Words) → sound t ≡ true → refusal x words dock t ≡ 11 → eleven_in x (repaired t) ≡ true
 only-eleven (insertion n k r c) words dock t s e = alone _ (number-holds 11 (insertion n k r c) words dock t s (omega arith) e)
 only-eleven (deletion n k) words dock t s e = number-holds 11 (deletion n k) words dock t s (omega arith) e
 only-eleven (class_change n k c) words dock t s e = number-holds 11 (class_change n k c) words dock t s (omega arith) e
 only-eleven repair words dock t s e = number-holds 11 repair words dock t s (omega arith) e
 
+-- on a sound table, a call is refused with 10 only if the repaired table says so
 pub only-ten : (x : Call) (words dock : ℕ) (t : Words) → sound t ≡ true → refusal x words dock t ≡ 10 → ten_in x (repaired t) ≡ true
 only-ten (insertion n k r c) words dock t s e = alone _ (number-holds 10 (insertion n k r c) words dock t s (omega arith) e)
 only-ten (deletion n k) words dock t s e = number-holds 10 (deletion n k) words dock t s (omega arith) e

@@ -1,12 +1,7 @@
 -- The nodes that repair stores to, by the leftover of the whole table: they lie in the table and hide nothing; the parent has room.
-use mathlib.Core.Path.{◌≡◌, sym, ◌∙◌}
-use mathlib.Core.Bool.{Bool, true, false}
-use mathlib.Core.List.{List, Memᴰ}
+use Rattle.std.proofs.Common.{◌≡◌, ℕ, ◌<◌, ◌≤◌, Bool, true, false, List, length, sym, ◌∙◌, arith, leb-true}
+use mathlib.Core.List.{Memᴰ}
 use mathlib.Core.Option.{some}
-use Prim.Native.Nat.{ℕ, ◌≤◌, ◌<◌}
-use native.Mathlib.Omega.{arith}
-use lib.ListN.{length}
-use borrow.Author.Tests.{leb-true}
 use Rattle.model.specs.Table.{Words, has_node}
 use Rattle.model.specs.Slots.{node_view}
 use Rattle.model.specs.Reached.{reached}
@@ -32,11 +27,15 @@ module _ (w : ℕ) (ws : List ℕ) (t : Words) (y : Leftover) (f : Tree w ws t y
 
 missing-in : (w : ℕ) (ws : List ℕ) (t : Words) (p a : ℕ) (b : Bool) → Tree w ws t (missing_in p a b) → Plain t p × Plain t a
 missing-in w ws t p a false f =
-    let g = f.left.left.2 in
-    (reached-plain w ws t _ f p g.member f.left.left.0, reached-plain w ws t _ f a (a-reached (tree_at w t) p a f.left.orderly g) f.left.left.0)
+    let g = f.left.left.2 in (
+      reached-plain w ws t _ f p g.member f.left.left.0,
+      reached-plain w ws t _ f a (a-reached (tree_at w t) p a f.left.orderly g) f.left.left.0,
+    )
 missing-in w ws t p a true f =
-    let g = f.left.left.2 in
-    (reached-plain w ws t _ f p g.member f.left.left.0, reached-plain w ws t _ f a (a-reached (tree_at w t) p a f.left.orderly g) f.left.left.0)
+    let g = f.left.left.2 in (
+      reached-plain w ws t _ f p g.member f.left.left.0,
+      reached-plain w ws t _ f a (a-reached (tree_at w t) p a f.left.orderly g) f.left.left.0,
+    )
 
 -- the tree that has the leftover
 record LeftIn (t : Words) (y : Leftover) : Type 0 where
@@ -56,6 +55,7 @@ unfolding room
 roomy w t p h = let r : length (node_view t p).shown ≤ 10 = leb-true _ _ h in omega arith
 
 module _ (t : Words) (s : sound t ≡ true) where
+  -- the node in which a slot is hidden lies in the table
   pub hidden-there : (x : ℕ) → leftover_all t ≡ some (hidden_in x) → has_node t x ≡ true
   hidden-there x e = let l = left-in t (hidden_in x) s e in reached-there l.word l.others t (hidden_in x) l.tree x l.tree.left.left.0.member
 
@@ -63,6 +63,7 @@ module _ (t : Words) (s : sound t ≡ true) where
   pub missing-plain : (p a : ℕ) (b : Bool) → leftover_all t ≡ some (missing_in p a b) → Plain t p × Plain t a
   missing-plain p a b e = let l = left-in t (missing_in p a b) s e in missing-in l.word l.others t p a b l.tree
 
+  -- the node that hides a slot, and lacks one, lies in the table
   pub both-there : (p a : ℕ) → leftover_all t ≡ some (both_in p a) → has_node t p ≡ true
   both-there p a e = let l = left-in t (both_in p a) s e in reached-there l.word l.others t (both_in p a) l.tree p l.tree.left.left.0.member
 
@@ -70,7 +71,8 @@ module _ (t : Words) (s : sound t ≡ true) where
   pub both-closed : (p a : ℕ) → leftover_all t ≡ some (both_in p a) → Plain (apply (close_at t p) t) p
   both-closed p a e =
       let l = left-in t (both_in p a) s e in
-      (missing-in l.word l.others (apply (close_at t p) t) p a false (close-tree l.word l.others t p a (arr-low l.word l.others t l.arranged) l.tree)).0
+      (missing-in l.word l.others (apply (close_at t p) t) p a false
+      (close-tree l.word l.others t p a (arr-low l.word l.others t l.arranged) l.tree)).0
 
   -- The parent that lacks a slot has room for it: it shows fewer than 11.
   pub missing-room : (p a : ℕ) (b : Bool) → leftover_all t ≡ some (missing_in p a b) → length (node_view t p).shown < 11

@@ -1,11 +1,5 @@
 -- The number of a call of one or two collections on a sound table: each comes exactly on its condition, 17 before all others.
-use mathlib.Core.Path.{◌≡◌, refl, ◌∙◌}
-use mathlib.Core.Logic.{◌↔◌}
-use mathlib.Core.Bool.{Bool, true, false, not}
-use mathlib.Core.List.{List, [], ◌∷◌}
-use Prim.Native.Nat.{ℕ}
-use lib.Dec.{ltb}
-use lib.ListN.{take, drop}
+use Rattle.std.proofs.Common.{◌≡◌, ℕ, Bool, true, false, not, ltb, ◌↔◌, List, [], ◌∷◌, take, drop, refl, ◌∙◌}
 use Rattle.model.specs.Table.{Words}
 use Rattle.model.specs.Slots.{class_ok}
 use Rattle.model.specs.SoundTest.{elem, sound}
@@ -34,18 +28,27 @@ module _ (words dock : ℕ) (t : Words) (s : sound t ≡ true) where
   -- 17: the collection is not there
   pub seventeen-iff : (x : Call) → (refusal x words dock t ≡ 17) ↔ (seventeen_in x t ≡ true)
   unfolding elem
-  seventeen-iff (insertion n k r c) = rw (number-with (insertion n k r c) words dock t s) (first-alone (seventeen_in (insertion n k r c) t) 17 (tests_on (insertion n k r c) words dock t) refl refl)
-  seventeen-iff (deletion n k) = rw (number-with (deletion n k) words dock t s) (first-alone (seventeen_in (deletion n k) t) 17 (tests_on (deletion n k) words dock t) refl refl)
-  seventeen-iff (class_change n k c) = rw (number-with (class_change n k c) words dock t s) (first-alone (seventeen_in (class_change n k c) t) 17 (tests_on (class_change n k c) words dock t) refl refl)
-  seventeen-iff repair = rw (number-with repair words dock t s) (first-alone (seventeen_in repair t) 17 (tests_on repair words dock t) refl refl)
+  seventeen-iff (insertion n k r c) =
+      rw (number-with (insertion n k r c) words dock t s)
+      (first-alone (seventeen_in (insertion n k r c) t) 17 (tests_on (insertion n k r c) words dock t) refl refl)
+  seventeen-iff (deletion n k) =
+      rw (number-with (deletion n k) words dock t s)
+      (first-alone (seventeen_in (deletion n k) t) 17 (tests_on (deletion n k) words dock t) refl refl)
+  seventeen-iff (class_change n k c) =
+      rw (number-with (class_change n k c) words dock t s)
+      (first-alone (seventeen_in (class_change n k c) t) 17 (tests_on (class_change n k c) words dock t) refl refl)
+  seventeen-iff repair =
+      rw (number-with repair words dock t s) (first-alone (seventeen_in repair t) 17 (tests_on repair words dock t) refl refl)
 
   -- 18: the dock is neither 0 nor 1
   pub eighteen-iff : (x : Call) → (refusal x words dock t ≡ 18) ↔ ((seventeen_in x t ≡ false) × (ltb 1 dock ≡ true))
   unfolding elem
   eighteen-iff x = rw (number-with x words dock t s) (go x)
     where
-      alone : (x : Call) → Other 18 (drop 2 (all_tests x words dock t)) → (first_number (all_tests x words dock t) ≡ 18) ↔ ((seventeen_in x t ≡ false) × (ltb 1 dock ≡ true))
-      alone x o = let u = first-iff (take 1 (all_tests x words dock t)) (ltb 1 dock) 18 (drop 2 (all_tests x words dock t)) refl o in (λ e. ((u.0 e).0.0, (u.0 e).1), λ p. u.1 ((p.0, tt), p.1))
+      alone : (x : Call) → Other 18 (drop 2 (all_tests x words dock t))
+          → (first_number (all_tests x words dock t) ≡ 18) ↔ ((seventeen_in x t ≡ false) × (ltb 1 dock ≡ true))
+      alone x o = let u = first-iff (take 1 (all_tests x words dock t)) (ltb 1 dock) 18 (drop 2 (all_tests x words dock t)) refl o in
+          (λ e. ((u.0 e).0.0, (u.0 e).1), λ p. u.1 ((p.0, tt), p.1))
 
       go : (x : Call) → (first_number (all_tests x words dock t) ≡ 18) ↔ ((seventeen_in x t ≡ false) × (ltb 1 dock ≡ true))
       go (insertion n k r c) = alone (insertion n k r c) refl
@@ -61,41 +64,56 @@ module _ (words dock : ℕ) (t : Words) (s : sound t ≡ true) where
     abbrev tests : List Test
     tests = all_tests (insertion n k r c) words dock t
 
-    pub fourteen-iff : (refusal (insertion n k r c) words dock t ≡ 14) ↔ (Passed (take 4 (all_tests (insertion n k r c) words dock t)) × ((not (class_ok c)) ≡ true))
+    pub fourteen-iff : (refusal (insertion n k r c) words dock t ≡ 14) ↔
+        (Passed (take 4 (all_tests (insertion n k r c) words dock t)) × ((not (class_ok c)) ≡ true))
     unfolding elem
     fourteen-iff = rw (number-with x words dock t s) (first-iff (take 4 tests) (not (class_ok c)) 14 (drop 5 tests) refl refl)
 
-    pub seven-iff : (refusal (insertion n k r c) words dock t ≡ 7) ↔ (Passed (take 5 (all_tests (insertion n k r c) words dock t)) × ((has_key k (map_of n t)) ≡ true))
+    pub seven-iff : (refusal (insertion n k r c) words dock t ≡ 7) ↔
+        (Passed (take 5 (all_tests (insertion n k r c) words dock t)) × ((has_key k (map_of n t)) ≡ true))
     unfolding elem
     seven-iff = rw (number-with x words dock t s) (first-iff (take 5 tests) (has_key k (map_of n t)) 7 (drop 6 tests) refl refl)
 
-    pub eight-iff : (refusal (insertion n k r c) words dock t ≡ 8) ↔ (Passed (take 6 (all_tests (insertion n k r c) words dock t)) × ((has_recording r (map_of n t)) ≡ true))
+    pub eight-iff : (refusal (insertion n k r c) words dock t ≡ 8) ↔
+        (Passed (take 6 (all_tests (insertion n k r c) words dock t)) × ((has_recording r (map_of n t)) ≡ true))
     unfolding elem
     eight-iff = rw (number-with x words dock t s) (first-iff (take 6 tests) (has_recording r (map_of n t)) 8 (drop 7 tests) refl refl)
 
-    pub eleven-iff : (refusal (insertion n k r c) words dock t ≡ 11) ↔ (Passed (take 7 (all_tests (insertion n k r c) words dock t)) × ((too_high n (repaired t) k) ≡ true))
+    pub eleven-iff : (refusal (insertion n k r c) words dock t ≡ 11) ↔
+        (Passed (take 7 (all_tests (insertion n k r c) words dock t)) × ((too_high n (repaired t) k) ≡ true))
     unfolding elem
     eleven-iff = rw (number-with x words dock t s) (first-iff (take 7 tests) (too_high n (repaired t) k) 11 (drop 8 tests) refl refl)
 
     -- 10 comes only where there are too few unreachable nodes; where there are enough, the insertion is accepted and does its work
-    pub ten-iff : (refusal (insertion n k r c) words dock t ≡ 10) ↔ (Passed (take 8 (all_tests (insertion n k r c) words dock t)) × ((too_few n (repaired t) k) ≡ true))
+    pub ten-iff : (refusal (insertion n k r c) words dock t ≡ 10) ↔
+        (Passed (take 8 (all_tests (insertion n k r c) words dock t)) × ((too_few n (repaired t) k) ≡ true))
     unfolding elem
     ten-iff = rw (number-with x words dock t s) (first-iff (take 8 tests) (too_few n (repaired t) k) 10 (drop 9 tests) refl refl)
 
   -- a deletion's tests: 17, 18, 5, 9
-  pub nine-iff : (n k : ℕ) → (refusal (deletion n k) words dock t ≡ 9) ↔ (Passed (take 3 (all_tests (deletion n k) words dock t)) × ((not (has_key k (map_of n t))) ≡ true))
+  pub nine-iff : (n k : ℕ)
+      → (refusal (deletion n k) words dock t ≡ 9) ↔
+      (Passed (take 3 (all_tests (deletion n k) words dock t)) × ((not (has_key k (map_of n t))) ≡ true))
   unfolding elem
-  nine-iff n k = rw (number-with (deletion n k) words dock t s) (first-iff (take 3 (all_tests (deletion n k) words dock t)) (not (has_key k (map_of n t))) 9 [] refl refl)
+  nine-iff n k = rw (number-with (deletion n k) words dock t s)
+      (first-iff (take 3 (all_tests (deletion n k) words dock t)) (not (has_key k (map_of n t))) 9 [] refl refl)
 
   -- a class change's tests: 17, 18, 5, 14, 9
   module _ (n k c : ℕ) where
     abbrev class-tests : List Test
     class-tests = all_tests (class_change n k c) words dock t
 
-    pub class-fourteen-iff : (refusal (class_change n k c) words dock t ≡ 14) ↔ (Passed (take 3 (all_tests (class_change n k c) words dock t)) × ((not (class_ok c)) ≡ true))
+    pub class-fourteen-iff :
+        (refusal (class_change n k c) words dock t ≡ 14) ↔
+        (Passed (take 3 (all_tests (class_change n k c) words dock t)) × ((not (class_ok c)) ≡ true))
     unfolding elem
-    class-fourteen-iff = rw (number-with (class_change n k c) words dock t s) (first-iff (take 3 class-tests) (not (class_ok c)) 14 (drop 4 class-tests) refl refl)
+    class-fourteen-iff =
+        rw (number-with (class_change n k c) words dock t s)
+        (first-iff (take 3 class-tests) (not (class_ok c)) 14 (drop 4 class-tests) refl refl)
 
-    pub class-nine-iff : (refusal (class_change n k c) words dock t ≡ 9) ↔ (Passed (take 4 (all_tests (class_change n k c) words dock t)) × ((not (has_key k (map_of n t))) ≡ true))
+    pub class-nine-iff :
+        (refusal (class_change n k c) words dock t ≡ 9) ↔
+        (Passed (take 4 (all_tests (class_change n k c) words dock t)) × ((not (has_key k (map_of n t))) ≡ true))
     unfolding elem
-    class-nine-iff = rw (number-with (class_change n k c) words dock t s) (first-iff (take 4 class-tests) (not (has_key k (map_of n t))) 9 [] refl refl)
+    class-nine-iff = rw (number-with (class_change n k c) words dock t s)
+        (first-iff (take 4 class-tests) (not (has_key k (map_of n t))) 9 [] refl refl)

@@ -1,12 +1,6 @@
 -- Search and listing never depend on the other collection's changes: at every first part of the stores of every accepted call.
-use mathlib.Core.Path.{◌≡◌, refl, ap, sym, ◌∙◌}
-use mathlib.Core.Logic.{◌≢◌, ◌⊎◌, inl, inr, ⊎_elim}
-use mathlib.Core.Bool.{Bool, true, false, cond}
-use mathlib.Core.List.{List}
+use Rattle.std.proofs.Common.{◌≡◌, ℕ, Bool, true, false, cond, ◌≢◌, ◌⊎◌, List, length, take, sym, refl, ap, ◌∙◌, inl, inr, ⊎_elim, ne_eqb}
 use mathlib.Core.Option.{Option, none, some}
-use Prim.Native.Nat.{ℕ}
-use lib.ListN.{length, take}
-use borrow.Author.Tests.{ne_eqb}
 use Rattle.model.specs.Results.{Listed, refused_with}
 use Rattle.model.specs.Table.{Words, no_collection}
 use Rattle.model.specs.Slots.{Slot}
@@ -39,11 +33,13 @@ number-by n t s = rw (sound-head t s, s)
 
 module _ (n : ℕ) (t : Words) (s : sound t ≡ true) (low high : ℕ) (out : Words) where
   -- A listing of any collection of a sound table is by its maps.
-  pub listed-by : (list n t low high out ≡ listed_from low high (length out) (list_in n (maps_of t))) × (list_out n t low high out ≡ written_from low high out (list_in n (maps_of t)))
+  pub listed-by : (list n t low high out ≡ listed_from low high (length out) (list_in n (maps_of t)))
+      × (list_out n t low high out ≡ written_from low high out (list_in n (maps_of t)))
   unfolding list list_out
   listed-by = go (no_collection n t) refl
     where
-      go : (b : Bool) → no_collection n t ≡ b → (list n t low high out ≡ listed_from low high (length out) (list_in n (maps_of t))) × (list_out n t low high out ≡ written_from low high out (list_in n (maps_of t)))
+      go : (b : Bool) → no_collection n t ≡ b → (list n t low high out ≡ listed_from low high (length out) (list_in n (maps_of t)))
+          × (list_out n t low high out ≡ written_from low high out (list_in n (maps_of t)))
       go true h =
           let e = number-by n t s ∙ ap (λ (b : Bool). cond b 17 0) h in
           rw (e, list-lacking n t h) (refl, refl)
@@ -71,7 +67,8 @@ others-list n (deletion j k) t m h z = other-list n j _ m (there j t h).0 z
 others-list n (class_change j k c) t m h z = other-list n j _ m (there j t h).0 z
 others-list n repair t m h z = refl
 
-module _ (x : Call) (words dock : ℕ) (t : Words) (s : sound t ≡ true) (ok : refusal x words dock t ≡ 0) (n : ℕ) (z : Others n x) (j : ℕ) where
+module _ (x : Call) (words dock : ℕ) (t : Words) (s : sound t ≡ true) (ok : refusal x words dock t ≡ 0) (n : ℕ)
+    (z : Others n x) (j : ℕ) where
   abbrev t' : Words
   t' = apply (take j (stores_of x t)) t
 
@@ -79,13 +76,15 @@ module _ (x : Call) (words dock : ℕ) (t : Words) (s : sound t ≡ true) (ok : 
   steps = accepted-steps x words dock t s ok
 
   same : list_in n (maps_of t') ≡ list_in n (maps_of t)
-  same = ⊎_elim (λ e. ap (list_in n) e) (λ e. ap (list_in n) e ∙ others-list n x t (maps_of t) ((accepted-iff x words dock t).0 ok).collection z) (steps.part-map j)
+  same = ⊎_elim (λ e. ap (list_in n) e)
+      (λ e. ap (list_in n) e ∙ others-list n x t (maps_of t) ((accepted-iff x words dock t).0 ok).collection z) (steps.part-map j)
 
   -- After any number of the stores of another collection's call, a search and a listing of collection n are as before it.
   pub search-stays : (k : ℕ) → search n (apply (take j (stores_of x t)) t) k ≡ search n t k
   search-stays k = searched n t' k (steps.part-sound j) ∙ ap (answer_from k) same ∙ sym (searched n t k s)
 
-  pub list-stays : (low high : ℕ) (out : Words) → (list n (apply (take j (stores_of x t)) t) low high out ≡ list n t low high out) × (list_out n (apply (take j (stores_of x t)) t) low high out ≡ list_out n t low high out)
+  pub list-stays : (low high : ℕ) (out : Words) → (list n (apply (take j (stores_of x t)) t) low high out ≡ list n t low high out)
+      × (list_out n (apply (take j (stores_of x t)) t) low high out ≡ list_out n t low high out)
   list-stays low high out =
       let a = listed-by n t' (steps.part-sound j) low high out in
       let b = listed-by n t s low high out in

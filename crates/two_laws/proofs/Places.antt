@@ -1,9 +1,5 @@
 -- Where the stores of a write go: each to a node that is named.
-use mathlib.Core.Path.{◌≡◌}
-use mathlib.Core.List.{List, [], ◌∷◌, map}
-use Prim.Native.Nat.{ℕ, suc, ◌+◌, ◌≤◌, ◌<◌}
-use native.Mathlib.Omega.{arith}
-use lib.ListN.{length}
+use Rattle.std.proofs.Common.{◌≡◌, ℕ, suc, ◌+◌, ◌<◌, ◌≤◌, List, [], ◌∷◌, map, length, arith}
 use Rattle.model.specs.Table.{Words, node_start}
 use Rattle.model.specs.Slots.{used, node_view}
 use Rattle.model.specs.Orders.{Store, put}
@@ -26,15 +22,23 @@ module _ (ns : List ℕ) (x : ℕ) (o : Other ns x) where
 
   pub shift-in-away : (t : Words) (k y : ℕ) → length (node_view t x).shown ≤ 10 → Each (Away ns) (shift_in_at t x k y)
   unfolding shift_in_at
-  shift-in-away t k y room = let ss = (node_view t x).shown in slots-away (shift_in (node_view t x).left ss (place_of k ss) k y) (shift-in-places (node_view t x).left ss (place_of k ss) k y 12 (place-length k ss) (omega arith))
+  shift-in-away t k y room = let ss =
+      (node_view t x).shown in slots-away (shift_in (node_view t x).left ss (place_of k ss) k y)
+      (shift-in-places (node_view t x).left ss (place_of k ss) k y 12 (place-length k ss) (omega arith))
 
-  pub shift-out-away : (t : Words) (k : ℕ) → length (node_view t x).shown ≤ 11 → place_of k (node_view t x).shown < length (node_view t x).shown → Each (Away ns) (shift_out_at t x k)
+  pub shift-out-away :
+      (t : Words) (k : ℕ) → length (node_view t x).shown ≤ 11 → place_of k (node_view t x).shown < length (node_view t x).shown
+      → Each (Away ns) (shift_out_at t x k)
   unfolding shift_out_at
-  shift-out-away t k few there = let ss = (node_view t x).shown in slots-away (shift_out (node_view t x).left ss (place_of k ss)) (shift-out-places (node_view t x).left ss (place_of k ss) 12 there (omega arith))
+  shift-out-away t k few there = let ss =
+      (node_view t x).shown in slots-away (shift_out (node_view t x).left ss (place_of k ss))
+      (shift-out-places (node_view t x).left ss (place_of k ss) 12 there (omega arith))
 
   pub close-away : (t : Words) → length (used t x) ≤ 11 → (node_view t x).hidden ≡ 1 → Each (Away ns) (close_at t x)
   unfolding close_at
-  close-away t few one = let p = hidden_place (node_view t x).left (used t x) in slots-away (close (used t x) p) (close-places (used t x) p 12 (hidden-place-lt (node_view t x).left (used t x) one) (omega arith))
+  close-away t few one = let p =
+      hidden_place (node_view t x).left (used t x) in slots-away (close (used t x) p)
+      (close-places (used t x) p 12 (hidden-place-lt (node_view t x).left (used t x) one) (omega arith))
 
   pub put-away : (w y : ℕ) → node_start x ≤ w → w < node_start x + 32 → Away ns (put w y)
   put-away w y a b = at-node (put w y) (a, b)

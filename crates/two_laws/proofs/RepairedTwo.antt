@@ -1,12 +1,7 @@
 -- The table as repair would leave it, read off the table itself, for each collection, wherever the leftover is.
-use mathlib.Core.Path.{◌≡◌, ap, ◌∙◌}
-use mathlib.Core.Bool.{true}
-use mathlib.Core.Logic.{◌≢◌, ◌⊎◌, inl, inr}
-use mathlib.Core.List.{List, Memᴰ}
+use Rattle.std.proofs.Common.{◌≡◌, ℕ, ◌+◌, ◌<◌, true, ◌≢◌, ◌⊎◌, List, length, ap, ◌∙◌, inl, inr, arith}
+use mathlib.Core.List.{Memᴰ}
 use mathlib.Core.Option.{some}
-use Prim.Native.Nat.{ℕ, ◌+◌, ◌<◌}
-use native.Mathlib.Omega.{arith}
-use lib.ListN.{length}
 use Rattle.model.specs.Table.{Words, at}
 use Rattle.model.specs.Slots.{node_view, height}
 use Rattle.model.specs.Search.{path}
@@ -30,7 +25,8 @@ use Rattle.two_laws.proofs.RepairTwo.{repair-away}
 
 -- the tree of header word x in the table t', against t
 pub record Later (x : ℕ) (t t' : Words) : Type 0 where
-  pub count : (n : ℕ) → Memᴰ n (reached (tree_at x t)) → length (node_view t' n).shown ≡ length (kept (tree_at x t) n) + lacking_in (leftover (tree_at x t)) n
+  pub count : (n : ℕ) → Memᴰ n (reached (tree_at x t)) → length (node_view t' n).shown
+      ≡ length (kept (tree_at x t) n) + lacking_in (leftover (tree_at x t)) n
   pub height : height (tree_at x t') ≡ height (tree_at x t)
   pub reached : reached (tree_at x t') ≡ reached (tree_at x t)
   pub path : (k : ℕ) → path (tree_at x t') k ≡ path (tree_at x t) k
@@ -60,7 +56,12 @@ module _ (w : ℕ) (ws : List ℕ) (t : Words) (y : Leftover) (low : Low w ws) (
 
   -- the tree with the leftover
   pub own-later : Later w t (apply (repair_of t (some y)) t)
-  own-later = record { height = rw done at r.height; reached = rw done at r.same.reached; path = rw done at r.path; count = rw done at r.count }
+  own-later = record {
+    height = rw done at r.height;
+    reached = rw done at r.same.reached;
+    path = rw done at r.path;
+    count = rw done at r.count;
+  }
 
   -- another tree
   module _ (x : ℕ) (i : Memᴰ x ws) where
@@ -83,7 +84,8 @@ module _ (w : ℕ) (ws : List ℕ) (t : Words) (y : Leftover) (low : Low w ws) (
       reached = k.reached;
       path = path-same (tree_at x t) (tree_at x t') l.orderly k.left.orderly root-same bares k.reached;
       count = λ n h.
-          let q : kept (tree_at x t) n ≡ (node_view t n).shown = each-mem (λ (n : ℕ). kept (tree_at x t) n ≡ (node_view t n).shown) l.left.1 h in
+          let q : kept (tree_at x t) n ≡ (node_view t n).shown =
+          each-mem (λ (n : ℕ). kept (tree_at x t) n ≡ (node_view t n).shown) l.left.1 h in
           let e : leftover (tree_at x t) ≡ some nothing = ((has-left-iff (tree_at x t) nothing).1 l).1 in
           let z : length (node_view t n).shown ≡ length (node_view t n).shown + 0 = omega arith in
           ap length (away-shown (taken ws t) ss t n ((mem-flat (λ (x : ℕ). reached (tree_at x t)) n ws).1 (x, i, h)) away) ∙ z ∙ rw (e, q);
@@ -101,6 +103,8 @@ repaired-later t x s i = go (sound-tree t s)
         let e : repair_stores t ≡ repair_of t (some u.leftover) = repair-list w u.others t u.leftover u.arranged u.tree in
         rw e (by-word w u.others u.leftover low u.arranged u.tree (same-or-not x w))
       where
-        by-word : (w : ℕ) (ws : List ℕ) (y : Leftover) → Low w ws → Arr w ws t → Tree w ws t y → (x ≡ w) ⊎ (x ≢ w) → Later x t (apply (repair_of t (some y)) t)
+        by-word : (w : ℕ) (ws : List ℕ) (y : Leftover) → Low w ws → Arr w ws t → Tree w ws t y → (x ≡ w) ⊎ (x ≢ w)
+            → Later x t (apply (repair_of t (some y)) t)
         by-word w ws y low a f (inl e) = rw e (own-later w ws t y low f)
-        by-word w ws y low a f (inr z) = other-later w ws t y low f x (arr-other w ws t x (λ (x : ℕ). Memᴰ x ws) a i z (mem-each (λ (x : ℕ). Memᴰ x ws) ws (λ x m. m)))
+        by-word w ws y low a f (inr z) =
+            other-later w ws t y low f x (arr-other w ws t x (λ (x : ℕ). Memᴰ x ws) a i z (mem-each (λ (x : ℕ). Memᴰ x ws) ws (λ x m. m)))

@@ -1,11 +1,7 @@
 -- A new root for the tree of header word w, beside the trees of ws: in any node that none of them reaches, then header word w.
-use mathlib.Core.Path.{◌≡◌, refl, ap, sym, ◌∙◌}
-use mathlib.Core.Logic.{◌≢◌, ◌↔◌, ◌⊎◌, inl, inr}
-use mathlib.Core.List.{List, [], ◌∷◌, Memᴰ}
-use Prim.Native.Nat.{ℕ, suc, ◌≤◌, ◌<◌}
-use native.Mathlib.Omega.{arith}
-use lib.ListN.{length, take, set}
-use lib.Seq.{get_or-set_same, get_or-set_other}
+use Rattle.std.proofs.Common.{◌≡◌, ℕ, suc, ◌<◌, ◌≤◌, ◌≢◌, ◌⊎◌, ◌↔◌, List, [], ◌∷◌, length, take, set, sym, refl, ap, ◌∙◌, inl, inr, arith}
+use Rattle.std.proofs.Common.{get_or-set_other, get_or-set_same}
+use mathlib.Core.List.{Memᴰ}
 use Rattle.model.specs.Table.{Words, at, nodes, node_start}
 use Rattle.model.specs.Slots.{View, height}
 use Rattle.model.specs.Reached.{mapping}
@@ -39,7 +35,8 @@ straight-seen l v v' e s = rw e s
 keeps-is : (v w u : View) → w ≡ u → Keeps v u nothing → Keeps v w nothing
 keeps-is v w u e k = rw e k
 
-module _ (w : ℕ) (ws : List ℕ) (t : Words) (low : Low w ws) (word : (w ≡ 1) ⊎ (w ≡ 3)) (others : Each (λ (x : ℕ). x ≢ w) ws) (f : Tree w ws t nothing) (high : height (tree_at w t) < 15) (b : ℕ) (g : Free w (taken ws t) t b) where
+module _ (w : ℕ) (ws : List ℕ) (t : Words) (low : Low w ws) (word : (w ≡ 1) ⊎ (w ≡ 3)) (others : Each (λ (x : ℕ). x ≢ w) ws)
+    (f : Tree w ws t nothing) (high : height (tree_at w t) < 15) (b : ℕ) (g : Free w (taken ws t) t b) where
   abbrev ns : List ℕ
   ns = taken ws t
 
@@ -56,7 +53,8 @@ module _ (w : ℕ) (ws : List ℕ) (t : Words) (low : Low w ws) (word : (w ≡ 1
   ss = put_all (node_start b) words
 
   away : Each (Away ns) ss
-  away = all-away ns b (record { some = ((range-iff (nodes t) b).0 g.range).0; off = g.off }) (node_start b) words (omega arith) (omega (arith, size-words))
+  away = all-away ns b (record { some = ((range-iff (nodes t) b).0 g.range).0; off = g.off }) (node_start b) words (omega arith)
+      (omega (arith, size-words))
 
   -- ---- the header word
 
@@ -83,10 +81,13 @@ module _ (w : ℕ) (ws : List ℕ) (t : Words) (low : Low w ws) (word : (w ≡ 1
   stored = get_or-set_same t₁ w b 0 (omega (arith, low.0, size))
 
   other-same : (x : ℕ) → Memᴰ x ws → tree_at x t₂ ≡ tree_at x t₁
-  other-same x m = rw (get_or-set_other t₁ w x b 0 (each-mem (λ (x : ℕ). x ≢ w) others m)) (head-view t₁ w b (at t₁ x) low.0 (get_or-set_other t₁ w 2 b 0 (λ q. not-two (sym q))))
+  other-same x m = rw (get_or-set_other t₁ w x b 0 (each-mem (λ (x : ℕ). x ≢ w) others m))
+      (head-view t₁ w b (at t₁ x) low.0 (get_or-set_other t₁ w 2 b 0 (λ q. not-two (sym q))))
 
   stay₂ : Stay ws t t₂
-  stay₂ = mem-each (λ (x : ℕ). Keeps (tree_at x t) (tree_at x t₂) nothing) ws (λ x m. keeps-is (tree_at x t) (tree_at x t₂) (tree_at x t₁) (other-same x m) (each-mem (λ (x : ℕ). Keeps (tree_at x t) (tree_at x t₁) nothing) stay₁ m))
+  stay₂ = mem-each (λ (x : ℕ). Keeps (tree_at x t) (tree_at x t₂) nothing) ws
+      (λ x m. keeps-is (tree_at x t) (tree_at x t₂) (tree_at x t₁) (other-same x m)
+      (each-mem (λ (x : ℕ). Keeps (tree_at x t) (tree_at x t₁) nothing) stay₁ m))
 
   -- word 3 is 0 or not, as before
   three : (at t₂ 3 ≡ 0) ↔ (at t₁ 3 ≡ 0)
@@ -103,12 +104,14 @@ module _ (w : ℕ) (ws : List ℕ) (t : Words) (low : Low w ws) (word : (w ≡ 1
 
   stay : (j : ℕ) → Stay ws t (apply (take j (new_root_at w t b)) t)
   unfolding apply
-  stay = always-append (Stay ws t) ss (put w b ∷ []) t (λ j. stays w ws t nothing low f (take j ss) (each-take (Away ns) j ss away)) (each-part (Stay ws t) (put w b ∷ []) t₁ (stay₁, stay₂))
+  stay = always-append (Stay ws t) ss (put w b ∷ []) t (λ j. stays w ws t nothing low f (take j ss) (each-take (Away ns) j ss away))
+      (each-part (Stay ws t) (put w b ∷ []) t₁ (stay₁, stay₂))
 
   lack : (j : ℕ) → (at (apply (take j (new_root_at w t b)) t) 3 ≡ 0) ↔ (at t 3 ≡ 0)
   unfolding apply
   lack =
-      let same : (j : ℕ) → at (apply (take j ss) t) 3 ≡ at t 3 = λ j. head-same w ws t nothing low f (take j ss) (each-take (Away ns) j ss away) 3 (omega arith) in
+      let same : (j : ℕ) → at (apply (take j ss) t) 3 ≡ at t 3 =
+      λ j. head-same w ws t nothing low f (take j ss) (each-take (Away ns) j ss away) 3 (omega arith) in
       let P : Words → Type 0 = λ (u : Words). (at u 3 ≡ 0) ↔ (at t 3 ≡ 0) in
       let e = head-same w ws t nothing low f ss away 3 (omega arith) in
       always-append P ss (put w b ∷ []) t (λ j. ((λ z. sym (same j) ∙ z), (λ z. same j ∙ z)))
@@ -135,8 +138,10 @@ module _ (w : ℕ) (ws : List ℕ) (t : Words) (low : Low w ws) (word : (w ≡ 1
     still = still-nil (tree_at w) (suc (height (tree_at w t))) t₂;
   }
 
+  -- while one collection gets a new root, each level of the others is quiet
   pub root-beside : OthersQuiet ws t (new_root_at w t b)
-  root-beside = others-append ws t ss (put w b ∷ []) (others-quiet w ws t nothing low f ss away) (mem-each (λ (x : ℕ). (l : ℕ) → Quiet (tree_at x) l t₁ (put w b ∷ [])) ws stay)
+  root-beside = others-append ws t ss (put w b ∷ []) (others-quiet w ws t nothing low f ss away)
+      (mem-each (λ (x : ℕ). (l : ℕ) → Quiet (tree_at x) l t₁ (put w b ∷ [])) ws stay)
     where
       whole₁ : (x : ℕ) → Memᴰ x ws → (l : ℕ) → Straight l (tree_at x t₁)
       whole₁ x m l = none-straight (tree_at x t₁) (each-mem (λ (x : ℕ). Keeps (tree_at x t) (tree_at x t₁) nothing) stay₁ m).left.left.2 l
@@ -144,7 +149,10 @@ module _ (w : ℕ) (ws : List ℕ) (t : Words) (low : Low w ws) (word : (w ≡ 1
       stay : (x : ℕ) → Memᴰ x ws → (l : ℕ) → Quiet (tree_at x) l t₁ (put w b ∷ [])
       stay x m l = each-part (QuietAt (tree_at x) l t₁) (put w b ∷ []) t₁ (
         record { same = same-refl l (tree_at x t₁); straight = whole₁ x m l },
-        record { same = same-seen l (tree_at x t₁) (tree_at x t₂) (other-same x m); straight = straight-seen l (tree_at x t₁) (tree_at x t₂) (other-same x m) (whole₁ x m l) },
+        record {
+          same = same-seen l (tree_at x t₁) (tree_at x t₂) (other-same x m);
+          straight = straight-seen l (tree_at x t₁) (tree_at x t₂) (other-same x m) (whole₁ x m l);
+        },
       )
 
   -- ---- what it leaves
@@ -152,5 +160,6 @@ module _ (w : ℕ) (ws : List ℕ) (t : Words) (low : Low w ws) (word : (w ≡ 1
   pub root-two-taken : taken ws (apply (new_root_at w t b) t) ≡ taken ws t
   root-two-taken = rw done (stay-taken ws t t₂ stay₂)
 
+  -- a new root does not change N
   pub root-two-nodes : nodes (apply (new_root_at w t b) t) ≡ nodes t
   root-two-nodes = rw done (get_or-set_other t₁ w 2 b 0 (λ q. not-two (sym q)) ∙ head-same w ws t nothing low f ss away 2 (omega arith))

@@ -1,10 +1,5 @@
 -- Search and listing of a collection by its map: they never depend on the other collection.
-use mathlib.Core.Path.{◌≡◌, ap, sym, ◌∙◌}
-use mathlib.Core.Bool.{true, false}
-use mathlib.Core.Logic.{◌≢◌, ◌⊎◌, inl, inr}
-use mathlib.Core.List.{List}
-use Prim.Native.Nat.{ℕ}
-use lib.ListN.{length}
+use Rattle.std.proofs.Common.{◌≡◌, ℕ, true, false, ◌≢◌, ◌⊎◌, List, length, sym, ap, ◌∙◌, inl, inr}
 use Rattle.model.specs.Table.{Words, header_ok, root_word, no_collection}
 use Rattle.model.specs.Slots.{Slot, view_of}
 use Rattle.model.specs.Search.{lookup, search}
@@ -20,6 +15,7 @@ use Rattle.two_laws.proofs.Arrange.{SoundAs, sound-parts, head-iff, sound-tree}
 use Rattle.two_laws.proofs.CallsTwo.{Is, arr-other}
 use Rattle.two_laws.proofs.AcceptedTwo.{there}
 
+-- a sound table has a right header
 pub sound-head : (t : Words) → sound t ≡ true → header_ok t ≡ true
 sound-head t s = (head-iff t).1 ((sound-parts t).0 s).0
 
@@ -31,7 +27,8 @@ sound-view w t s i = let u = sound-tree t s in go u (same-or-not w u.word)
     go u (inl e) = rw e ((sound-left (tree_at u.word t)).1 (u.leftover, u.tree.left, u.tree.room))
     go u (inr z) =
         arr-other u.word u.others t w (λ (x : ℕ). sound_view (tree_at x t) ≡ true) u.arranged i z
-        (Each-map (λ (x : ℕ). HasLeft (tree_at x t) nothing) (λ (x : ℕ). sound_view (tree_at x t) ≡ true) u.others (λ x l. settled-sound-view (tree_at x t) ((settled-left (tree_at x t)).1 l)) u.tree.others)
+        (Each-map (λ (x : ℕ). HasLeft (tree_at x t) nothing) (λ (x : ℕ). sound_view (tree_at x t) ≡ true) u.others
+        (λ x l. settled-sound-view (tree_at x t) ((settled-left (tree_at x t)).1 l)) u.tree.others)
 
 module _ (n : ℕ) (t : Words) (s : sound t ≡ true) (h : no_collection n t ≡ false) where
   -- A search of collection n answers as a lookup in its map.
@@ -53,12 +50,17 @@ module _ (n : ℕ) (t : Words) (s : sound t ≡ true) (h : no_collection n t ≡
   list-out-law low high out = rw accepts
 
 -- Search and listing never depend on the other collection: on two sound tables with the same map of collection n they are the same.
-module _ (n : ℕ) (t t' : Words) (s : sound t ≡ true) (s' : sound t' ≡ true) (h : no_collection n t ≡ false) (h' : no_collection n t' ≡ false) (e : map_of n t ≡ map_of n t') where
+module _ (n : ℕ) (t t' : Words) (s : sound t ≡ true) (s' : sound t' ≡ true) (h : no_collection n t ≡ false)
+    (h' : no_collection n t' ≡ false) (e : map_of n t ≡ map_of n t') where
   pub search-own : (k : ℕ) → search n t k ≡ search n t' k
   search-own k = search-law n t s h k ∙ ap (lookup k) e ∙ sym (search-law n t' s' h' k)
 
   pub list-own : (low high : ℕ) (out : Words) → list n t low high out ≡ list n t' low high out
-  list-own low high out = list-law n t s h low high out ∙ ap (λ (m : List Slot). listed (in_range_of low high m) (length out)) e ∙ sym (list-law n t' s' h' low high out)
+  list-own low high out =
+      list-law n t s h low high out ∙ ap (λ (m : List Slot). listed (in_range_of low high m) (length out)) e
+      ∙ sym (list-law n t' s' h' low high out)
 
   pub list-out-own : (low high : ℕ) (out : Words) → list_out n t low high out ≡ list_out n t' low high out
-  list-out-own low high out = list-out-law n t s h low high out ∙ ap (λ (m : List Slot). listed_words (in_range_of low high m) out) e ∙ sym (list-out-law n t' s' h' low high out)
+  list-out-own low high out =
+      list-out-law n t s h low high out ∙ ap (λ (m : List Slot). listed_words (in_range_of low high m) out) e
+      ∙ sym (list-out-law n t' s' h' low high out)

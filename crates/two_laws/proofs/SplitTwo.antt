@@ -1,11 +1,6 @@
 -- A split in the tree of header word w, beside the trees of ws: into any node that none of them reaches.
-use mathlib.Core.Path.{◌≡◌}
-use mathlib.Core.Bool.{Bool, true, false}
-use mathlib.Core.List.{List, Memᴰ}
-use Prim.Native.Nat.{ℕ, suc, ◌≤◌}
-use native.Mathlib.Omega.{arith}
-use lib.Dec.{eqb}
-use lib.ListN.{length, drop}
+use Rattle.std.proofs.Common.{◌≡◌, ℕ, suc, ◌≤◌, Bool, true, false, eqb, List, length, drop, arith}
+use mathlib.Core.List.{Memᴰ}
 use Rattle.model.specs.Table.{MARK, Words, nodes, node_start}
 use Rattle.model.specs.Slots.{node_view, height}
 use Rattle.model.specs.Reached.{reached, mapping}
@@ -33,12 +28,15 @@ length-split t a = go (eqb (node_view t a).level 0)
   where
     go : (b : Bool) → length {A = ℕ} (elim b as (λ x. Words) [
       | true ↦ node_words MARK (node_view t a).sibling (node_view t a).level (middle t a).key (drop 5 (node_view t a).shown)
-      | false ↦ node_words (middle t a).pointer (node_view t a).sibling (node_view t a).level (middle t a).key (drop 6 (node_view t a).shown)
+      | false ↦ node_words (middle t a).pointer (node_view t a).sibling (node_view t a).level (middle t a).key
+          (drop 6 (node_view t a).shown)
     ]) ≡ 32
     go true = length-node-words MARK (node_view t a).sibling (node_view t a).level (middle t a).key (drop 5 (node_view t a).shown)
-    go false = length-node-words (middle t a).pointer (node_view t a).sibling (node_view t a).level (middle t a).key (drop 6 (node_view t a).shown)
+    go false = length-node-words (middle t a).pointer (node_view t a).sibling (node_view t a).level (middle t a).key
+        (drop 6 (node_view t a).shown)
 
-module _ (w : ℕ) (ws : List ℕ) (t : Words) (low : Low w ws) (f : Tree w ws t nothing) (k l : ℕ) (h : FullNode (tree_at w t) k l) (b : ℕ) (g : Free w (taken ws t) t b) where
+module _ (w : ℕ) (ws : List ℕ) (t : Words) (low : Low w ws) (f : Tree w ws t nothing) (k l : ℕ) (h : FullNode (tree_at w t) k l) (b : ℕ)
+    (g : Free w (taken ws t) t b) where
   abbrev ns : List ℕ
   ns = taken ws t
 
@@ -62,7 +60,8 @@ module _ (w : ℕ) (ws : List ℕ) (t : Words) (low : Low w ws) (f : Tree w ws t
   away =
       let m = there l (omega (arith, h.high)) in
       let q = there (suc l) h.high in
-      Each-append (Away ns) (put_all (node_start b) (split_words t a)) _ (all-away ns b b-other (node_start b) (split_words t a) (omega arith) (omega (arith, length-split t a))) (
+      Each-append (Away ns) (put_all (node_start b) (split_words t a)) _
+      (all-away ns b b-other (node_start b) (split_words t a) (omega arith) (omega (arith, length-split t a))) (
         put-away ns a (own-other w ws t nothing f a m) (suc (node_start a)) b (omega arith) (omega arith),
         (
           put-away ns a (own-other w ws t nothing f a m) (pointer_word a 5) 0 (omega arith) (omega arith),
@@ -74,11 +73,13 @@ module _ (w : ℕ) (ws : List ℕ) (t : Words) (low : Low w ws) (f : Tree w ws t
   pub split-course : Course 67 w ws t (split_into w t l k b) (mapping (tree_at w t))
   split-course = phase-course 67 w ws t nothing (split t a b p) (mapping (tree_at w t)) low f (split-phase w ns t s k l h b g) away
 
+  -- while a node of one collection is split, each level of the others is quiet
   pub split-beside : OthersQuiet ws t (split_into w t l k b)
   split-beside = others-quiet w ws t nothing low f (split t a b p) away
 
   pub two-taken : taken ws (apply (split_into w t l k b) t) ≡ taken ws t
   two-taken = taken-same w ws t nothing low f (split t a b p) away
 
+  -- a split does not change N
   pub two-nodes : nodes (apply (split_into w t l k b) t) ≡ nodes t
   two-nodes = head-same w ws t nothing low f (split t a b p) away 2 (omega arith)

@@ -1,12 +1,6 @@
 -- Every visit fits exactly if the first one does and every node below is in order.
-use mathlib.Core.Path.{◌≡◌, refl, ap, sym, subst, ◌∙◌}
-use mathlib.Core.Bool.{Bool, true, false}
-use mathlib.Core.Logic.{◌↔◌}
-use mathlib.Core.List.{List, [], ◌∷◌, map}
-use Prim.Native.Nat.{ℕ, zero, suc}
-use native.Mathlib.Omega.{arith}
-use lib.Dec.{eqb}
-use borrow.Author.Tests.{eqb-true, eq-eqb, ne_eqb}
+use Rattle.std.proofs.Common.{◌≡◌, ℕ, zero, suc, Bool, true, false, eqb, ◌↔◌, List, [], ◌∷◌, map, sym, refl, ap, ◌∙◌, subst, arith, eq-eqb}
+use Rattle.std.proofs.Common.{ne_eqb, eqb-true}
 use Rattle.model.specs.Table.{in_range}
 use Rattle.model.specs.Slots.{Slot, View}
 use Rattle.model.specs.Reached.{flat, head_or, pointers, named, next_child, fill_row, children}
@@ -18,7 +12,8 @@ use Rattle.walk_laws.proofs.Sums.{depth_first}
 use Rattle.walk_laws.proofs.Run.{visits}
 
 -- what alone_ok says of the sibling
-alone-sibling : (v : View) (n : ℕ) → alone_ok v n ≡ true → ((v.node n).sibling ≡ 0 → ⊥) → (v.node (v.node n).sibling).level ≡ (v.node n).level
+alone-sibling : (v : View) (n : ℕ) → alone_ok v n ≡ true → ((v.node n).sibling ≡ 0 → ⊥)
+    → (v.node (v.node n).sibling).level ≡ (v.node n).level
 unfolding alone_ok sibling_ok
 alone-sibling v n h z = (simp decode at (rw (ne_eqb (v.node n).sibling 0 z) at (simp and-iff at h).1.0)).1.0
 
@@ -37,14 +32,24 @@ fits-iff v x = (
   λ u. simp decode ((u.range, (u.level, (u.fence, u.right))), u.alone),
 )
 
+-- if the next node of the row is the sibling of a slot's node, that node is visited once, then the rest
 pub visits-yes : (v : View) (p d : ℕ) (s : Slot) (ss : List Slot) (e : ℕ) → eqb (v.node s.pointer).sibling (head_or e (pointers ss)) ≡ true
-    → visits_of v p d (s ∷ ss) e ≡ record { node = s.pointer; level = d; fence = s.key; right = head_or e (pointers ss); way = finished } ∷ visits_of v p d ss e
+    → visits_of v p d (s ∷ ss) e
+    ≡ record { node = s.pointer; level = d; fence = s.key; right = head_or e (pointers ss); way = finished } ∷ visits_of v p d ss e
 unfolding visits_of
 visits-yes v p d s ss e c = rw (c, visits_of)
 
+-- if it is not, the sibling lacks its slot: both nodes are visited, then the rest
 pub visits-no : (v : View) (p d : ℕ) (s : Slot) (ss : List Slot) (e : ℕ) → eqb (v.node s.pointer).sibling (head_or e (pointers ss)) ≡ false
-    → visits_of v p d (s ∷ ss) e ≡ record { node = s.pointer; level = d; fence = s.key; right = (v.node s.pointer).sibling; way = missing_at p s.pointer }
-    ∷ record { node = (v.node s.pointer).sibling; level = d; fence = (v.node (v.node s.pointer).sibling).fence; right = head_or e (pointers ss); way = finished } ∷ visits_of v p d ss e
+    → visits_of v p d (s ∷ ss) e
+    ≡ record { node = s.pointer; level = d; fence = s.key; right = (v.node s.pointer).sibling; way = missing_at p s.pointer }
+    ∷ record {
+      node = (v.node s.pointer).sibling;
+      level = d;
+      fence = (v.node (v.node s.pointer).sibling).fence;
+      right = head_or e (pointers ss);
+      way = finished;
+    } ∷ visits_of v p d ss e
 unfolding visits_of
 visits-no v p d s ss e c = rw (c, visits_of)
 
@@ -56,9 +61,11 @@ unfolding visits_of fill_row
 visits-nodes v p d [] e = refl
 visits-nodes v p d (s ∷ ss) e = go (eqb (v.node s.pointer).sibling (head_or e (pointers ss))) refl (visits-nodes v p d ss e)
   where
-    go : (b : Bool) → eqb (v.node s.pointer).sibling (head_or e (pointers ss)) ≡ b → nodes_of (visits_of v p d ss e) ≡ fill_row v (pointers ss) e → nodes_of (visits_of v p d (s ∷ ss) e) ≡ fill_row v (pointers (s ∷ ss)) e
+    go : (b : Bool) → eqb (v.node s.pointer).sibling (head_or e (pointers ss)) ≡ b → nodes_of (visits_of v p d ss e)
+        ≡ fill_row v (pointers ss) e → nodes_of (visits_of v p d (s ∷ ss) e) ≡ fill_row v (pointers (s ∷ ss)) e
     go true c ih = rw (visits-yes v p d s ss e c, link-yes v s.pointer (pointers ss) e c) (ap (λ (l : List ℕ). s.pointer ∷ l) ih)
-    go false c ih = rw (visits-no v p d s ss e c, link-no v s.pointer (pointers ss) e c) (ap (λ (l : List ℕ). s.pointer ∷ (v.node s.pointer).sibling ∷ l) ih)
+    go false c ih = rw (visits-no v p d s ss e c, link-no v s.pointer (pointers ss) e c)
+        (ap (λ (l : List ℕ). s.pointer ∷ (v.node s.pointer).sibling ∷ l) ih)
 
 -- what node_ok asks of a row of children, with what alone_ok asks of each
 pub record RowOk (v : View) (d : ℕ) (ss : List Slot) (e : ℕ) : Type 0 where
@@ -72,7 +79,8 @@ unfolding all slot_ok child_ok linked
 row-to v p d [] e h = unfold fill_row in record { names = refl; range = refl; chain = refl; alone = refl }
 row-to v p d (s ∷ ss) e h = go (eqb (v.node s.pointer).sibling (head_or e (pointers ss))) refl (row-to v p d ss e)
   where
-    go : (b : Bool) → eqb (v.node s.pointer).sibling (head_or e (pointers ss)) ≡ b → (Each (Fits v) (visits_of v p d ss e) → RowOk v d ss e) → RowOk v d (s ∷ ss) e
+    go : (b : Bool) → eqb (v.node s.pointer).sibling (head_or e (pointers ss)) ≡ b
+        → (Each (Fits v) (visits_of v p d ss e) → RowOk v d ss e) → RowOk v d (s ∷ ss) e
     go true c ih =
         let u = rw (visits-yes v p d s ss e c) at h in
         let w = ih u.1 in
@@ -100,7 +108,8 @@ unfolding all slot_ok child_ok linked
 row-from v p d [] e h = unfold visits_of in tt
 row-from v p d (s ∷ ss) e h = go (eqb (v.node s.pointer).sibling (head_or e (pointers ss))) refl (row-from v p d ss e)
   where
-    go : (b : Bool) → eqb (v.node s.pointer).sibling (head_or e (pointers ss)) ≡ b → (RowOk v d ss e → Each (Fits v) (visits_of v p d ss e)) → Each (Fits v) (visits_of v p d (s ∷ ss) e)
+    go : (b : Bool) → eqb (v.node s.pointer).sibling (head_or e (pointers ss)) ≡ b → (RowOk v d ss e → Each (Fits v) (visits_of v p d ss e))
+        → Each (Fits v) (visits_of v p d (s ∷ ss) e)
     go true c ih =
         let q = link-yes v s.pointer (pointers ss) e c in
         let a = simp decode at h.names in
@@ -122,7 +131,14 @@ row-from v p d (s ∷ ss) e h = go (eqb (v.node s.pointer).sibling (head_or e (p
         rw (visits-no v p d s ss e c) (
           record { range = r.0; level = lv; fence = a.0.1; right = refl; alone = o.0 },
           (
-            record { range = r.1.0; level = alone-sibling v s.pointer o.0 (not-zero v _ r.1.0) ∙ lv; fence = refl; right = l.1.0 ∙ head-row v (pointers ss) e e; alone = o.1.0 },
+            record {
+              range = r.1.0;
+              level = alone-sibling v s.pointer o.0 (not-zero v _ r.1.0) ∙ lv;
+              fence = refl;
+              right = l.1.0
+                  ∙ head-row v (pointers ss) e e;
+              alone = o.1.0;
+            },
             ih (record { names = a.1; range = r.1.1; chain = l.1.1; alone = o.1.1 }),
           ),
         )
@@ -131,13 +147,15 @@ pub good-alone : (v : View) (n : ℕ) → Good v n → alone_ok v n ≡ true
 unfolding node_ok alone_ok inner_ok
 good-alone v n h = let u = simp and-iff at h in simp and-iff (u.0, (u.1.0, go (eqb (v.node n).level 0) u.1.1))
   where
-    go : (b : Bool) → (elim b as (λ c. Bool) [ true ↦ leaf_ok v n | false ↦ inner_ok v n ]) ≡ true → (elim b as (λ c. Bool) [ true ↦ leaf_ok v n | false ↦ keys_ok v n (suc (v.node n).fence) ]) ≡ true
+    go : (b : Bool) → (elim b as (λ c. Bool) [ true ↦ leaf_ok v n | false ↦ inner_ok v n ]) ≡ true
+        → (elim b as (λ c. Bool) [ true ↦ leaf_ok v n | false ↦ keys_ok v n (suc (v.node n).fence) ]) ≡ true
     go true e = e
     go false e = (simp and-iff at e).0
 
 good-leaf : (v : View) (n : ℕ) → (v.node n).level ≡ 0 → alone_ok v n ≡ true → Good v n
 unfolding node_ok alone_ok
-good-leaf v n e h = let u = simp and-iff at h in simp and-iff (u.0, (u.1.0, rw (eq-eqb (v.node n).level 0 e) (rw (eq-eqb (v.node n).level 0 e) at u.1.1)))
+good-leaf v n e h = let u =
+    simp and-iff at h in simp and-iff (u.0, (u.1.0, rw (eq-eqb (v.node n).level 0 e) (rw (eq-eqb (v.node n).level 0 e) at u.1.1)))
 
 -- what node_ok asks of the children of n, on level d
 record ChildrenOk (v : View) (d n : ℕ) : Type 0 where
@@ -150,7 +168,11 @@ unfolding node_ok inner_ok all slot_ok
 good-children v d n e h =
     let u = simp and-iff at (rw (ne_eqb (v.node n).level 0 (λ z. omega arith)) at (simp and-iff at h).1.1) in
     let q = children-inner v d n e in
-    record { names = subst (λ (l : ℕ). all (slot_ok v l) (ways v n) ≡ true) e (simp and-iff (u.1.0, u.1.1.0)); range = rw (← q) u.1.1.1.0; chain = rw (← q) u.1.1.1.1 }
+    record {
+      names = subst (λ (l : ℕ). all (slot_ok v l) (ways v n) ≡ true) e (simp and-iff (u.1.0, u.1.1.0));
+      range = rw (← q) u.1.1.1.0;
+      chain = rw (← q) u.1.1.1.1;
+    }
 
 children-good : (v : View) (d n : ℕ) → (v.node n).level ≡ suc d → alone_ok v n ≡ true → ChildrenOk v d n → Good v n
 unfolding node_ok alone_ok inner_ok all slot_ok
@@ -166,14 +188,16 @@ unfolding visits_of
 visits-level v p d [] e = tt
 visits-level v p d (s ∷ ss) e = go (eqb (v.node s.pointer).sibling (head_or e (pointers ss))) refl (visits-level v p d ss e)
   where
-    go : (b : Bool) → eqb (v.node s.pointer).sibling (head_or e (pointers ss)) ≡ b → Each (λ (x : Visit). x.level ≡ d) (visits_of v p d ss e) → Each (λ (x : Visit). x.level ≡ d) (visits_of v p d (s ∷ ss) e)
+    go : (b : Bool) → eqb (v.node s.pointer).sibling (head_or e (pointers ss)) ≡ b
+        → Each (λ (x : Visit). x.level ≡ d) (visits_of v p d ss e) → Each (λ (x : Visit). x.level ≡ d) (visits_of v p d (s ∷ ss) e)
     go true c ih = rw (visits-yes v p d s ss e c) (refl, ih)
     go false c ih = rw (visits-no v p d s ss e c) (refl, (refl, ih))
 
 abbrev pub Same : View → ℕ → Type 0
 Same v d = (x : Visit) → x.level ≡ d → Each (Fits v) (visits v d x) ↔ (Fits v x × Each (Good v) (depth_first v d x.node))
 
-rows-to : (v : View) (d : ℕ) → Same v d → (xs : List Visit) → Each (λ (x : Visit). x.level ≡ d) xs → Each (Fits v) (flat (visits v d) xs) → Each (Fits v) xs × Each (Good v) (flat (depth_first v d) (nodes_of xs))
+rows-to : (v : View) (d : ℕ) → Same v d → (xs : List Visit) → Each (λ (x : Visit). x.level ≡ d) xs → Each (Fits v) (flat (visits v d) xs)
+    → Each (Fits v) xs × Each (Good v) (flat (depth_first v d) (nodes_of xs))
 unfolding flat
 rows-to v d ih [] l h = (tt, tt)
 rows-to v d ih (x ∷ xs) l h =
@@ -182,7 +206,8 @@ rows-to v d ih (x ∷ xs) l h =
     let b = rows-to v d ih xs l.1 u.1 in
     ((a.0, b.0), Each-append (Good v) (depth_first v d x.node) (flat (depth_first v d) (nodes_of xs)) a.1 b.1)
 
-rows-from : (v : View) (d : ℕ) → Same v d → (xs : List Visit) → Each (λ (x : Visit). x.level ≡ d) xs → Each (Fits v) xs → Each (Good v) (flat (depth_first v d) (nodes_of xs)) → Each (Fits v) (flat (visits v d) xs)
+rows-from : (v : View) (d : ℕ) → Same v d → (xs : List Visit) → Each (λ (x : Visit). x.level ≡ d) xs → Each (Fits v) xs
+    → Each (Good v) (flat (depth_first v d) (nodes_of xs)) → Each (Fits v) (flat (visits v d) xs)
 unfolding flat
 rows-from v d ih [] l a g = tt
 rows-from v d ih (x ∷ xs) l a g =
@@ -212,9 +237,11 @@ visits-good v (suc d) x e = (
       let g = good-children v d n (h.0.level ∙ e) h.1.0 in
       let c = children-inner v d n (h.0.level ∙ e) in
       let q = visits-nodes v n d (ways v n) (next_child v n) ∙ sym c in
-      let o = (all-each (alone_ok v) (children v n)).1 (Each-map (Good v) (λ (x : ℕ). alone_ok v x ≡ true) (children v n) (good-alone v) (heads v (Good v) d (children v n) h.1.1)) in (
+      let o = (all-each (alone_ok v) (children v n)).1
+      (Each-map (Good v) (λ (x : ℕ). alone_ok v x ≡ true) (children v n) (good-alone v) (heads v (Good v) d (children v n) h.1.1)) in (
         h.0,
         rows-from v d (visits-good v d) (visits_below v d n) (visits-level v n d (ways v n) (next_child v n))
-            (row-from v n d (ways v n) (next_child v n) (record { names = g.names; range = g.range; chain = g.chain; alone = rw c at o })) (rw q h.1.1),
+            (row-from v n d (ways v n) (next_child v n) (record { names = g.names; range = g.range; chain = g.chain; alone = rw c at o }))
+            (rw q h.1.1),
       ),
 )

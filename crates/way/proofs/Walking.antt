@@ -1,24 +1,18 @@
 -- The way of a quick call, by the tests in the order of the code.
-use mathlib.Core.Path.{◌≡◌, refl, ap, sym, ◌∙◌}
-use mathlib.Core.Bool.{Bool, true, false, cond, ◌&&◌, and-false}
-use mathlib.Core.List.{List, [], ◌∷◌, ◌++◌, append_assoc}
-use Prim.Native.Nat.{ℕ, zero, suc, ◌+◌, ◌-◌, ◌≤◌, ◌<◌}
-use native.Mathlib.Numerals.{add-one}
-use native.Mathlib.Omega.{arith}
-use lib.Dec.{eqb, leb}
+use Rattle.std.proofs.Common.{◌≡◌, ℕ, zero, suc, ◌+◌, ◌-◌, ◌<◌, ◌≤◌, Bool, true, false, cond, ◌&&◌, eqb, leb, List, [], ◌∷◌, ◌++◌, length}
+use Rattle.std.proofs.Common.{get_or, take, set, replicate, sym, refl, ap, ◌∙◌, append_assoc, add-one, arith, length-set, get_or-take}
+use Rattle.std.proofs.Common.{take-suc-set, eq-eqb, ne_eqb, eqb-true, le-leb, leb-true}
+use mathlib.Core.Bool.{and-false}
 use Rattle.std.specs.Prelude.{Option, Some, None}
 use Rattle.std.specs.Bool.{then_some}
-use lib.ListN.{length, get_or, take, set, replicate, length-set}
-use lib.Seq.{take-suc-set, get_or-take}
-use borrow.Author.Tests.{eqb-true, eqb-false, eq-eqb, ne_eqb, le-leb, lt-leb, leb-true}
+use borrow.Author.Tests.{eqb-false, lt-leb}
 use Rattle.model.specs.declared.Node.{Node}
-use Rattle.model.specs.Table.{Words, in_range, header_ok, node, nodes}
+use Rattle.model.specs.Table.{Words, in_range, node, nodes}
 use Rattle.model.specs.Slots.{View, node_view, view_from, view_of, view, height, used, shown, full}
 use Rattle.model.specs.Search.{below, moved, down, on_level, passes, locate, path_from, path}
 use Rattle.model.specs.SoundTest.{all}
 use Rattle.model.specs.Writes.{run_in, run, standing_in, standing}
 use Rattle.list_laws.proofs.Tools.{and-iff}
-use Rattle.table_laws.proofs.Header.{header-iff}
 use Rattle.slot_laws.proofs.Hiding.{shown-and-hidden}
 use Rattle.slots.specs.Scan.{shown_from, in_use_of}
 use Rattle.search.specs.Descent.{seen_of, seen_in, stand_on}
@@ -36,7 +30,8 @@ use Rattle.way.specs.Ways.{plain_count, shown_fit, step_to, step_ok, step_of, ru
 
 -- ---- a fit node, from the record that the code has read: x is node m
 
-module _ (t : Words) (m : ℕ) (x : Node) (q : x ≡ node t m) (count s : ℕ) (c : count ≡ length (in_use_of x.slots)) (e : s ≡ length (shown_from x.left x.slots 0)) where
+module _ (t : Words) (m : ℕ) (x : Node) (q : x ≡ node t m) (count s : ℕ) (c : count ≡ length (in_use_of x.slots))
+    (e : s ≡ length (shown_from x.left x.slots 0)) where
   shows : s ≡ length (node_view t m).shown
   unfolding used
   shows = e ∙ ap (λ (y : Node). length (shown_from y.left y.slots 0)) q
@@ -79,7 +74,8 @@ module _ (ms : Words) (v : View) (m : ℕ) where
       go true z w = cc
       go false z w = rw (g, z)
 
-  pub fit-shown : (s : ℕ) (r : Option ℕ) → has ms m ≡ true → plain_count (v.node m) ≡ Some s → r ≡ then_some (leb s 11) s → r ≡ shown_fit ms v m
+  pub fit-shown : (s : ℕ) (r : Option ℕ) → has ms m ≡ true → plain_count (v.node m) ≡ Some s → r
+      ≡ then_some (leb s 11) s → r ≡ shown_fit ms v m
   unfolding shown_fit fit_node plain_count
   fit-shown s r g e f = f ∙ go (eqb (v.node m).hidden 0) refl e
     where
@@ -88,12 +84,10 @@ module _ (ms : Words) (v : View) (m : ℕ) where
       pick false n = refl
 
       go : (b : Bool) → eqb (v.node m).hidden 0 ≡ b → cond b (Some (length (v.node m).shown)) None ≡ Some s
-          → then_some (leb s 11) s ≡ cond (has ms m && (eqb (v.node m).hidden 0 && leb (length (v.node m).shown) 11)) (Some (length (v.node m).shown)) None
+          → then_some (leb s 11) s
+          ≡ cond (has ms m && (eqb (v.node m).hidden 0 && leb (length (v.node m).shown) 11)) (Some (length (v.node m).shown)) None
       go true z w = let u : (length (v.node m).shown) ≡ s = cc in rw (g, z, u) (pick (leb s 11) s)
       go false z w = cc
-
-pub header-few : (t : Words) → header_ok t ≡ true → nodes t ≤ 65535
-header-few t h = ((header-iff t).0 h).size.few
 
 -- ---- one level: coming to n, the search stands on m
 
@@ -129,7 +123,8 @@ module _ (ms : Words) (v : View) (l n k : ℕ) where
     unfolding shown_fit
     step-unfit f = go (fit_node ms v (moved v n k)) refl (sym (ap (shown_fit ms v) on) ∙ f)
       where
-        go : (b : Bool) → fit_node ms v (moved v n k) ≡ b → cond b (Some (length (v.node (moved v n k)).shown)) None ≡ None → None ≡ step_of ms v l n k
+        go : (b : Bool) → fit_node ms v (moved v n k) ≡ b → cond b (Some (length (v.node (moved v n k)).shown)) None ≡ None
+            → None ≡ step_of ms v l n k
         go true g w = cc
         go false g w = step-off (ap (λ (b : Bool). passes v l n && b) g ∙ and-false (passes v l n))
 
@@ -155,7 +150,8 @@ module _ (ms : Words) (v : View) (n k : ℕ) where
   unfolding locate path_from step_ok all
   ok-leaf = go (passes v 0 n) refl (fit_node ms v (moved v n k)) refl
     where
-      go : (a : Bool) → passes v 0 n ≡ a → (b : Bool) → fit_node ms v (moved v n k) ≡ b → ok_from ms v 0 n k ≡ (passes v 0 n && fit_node ms v (moved v n k))
+      go : (a : Bool) → passes v 0 n ≡ a → (b : Bool) → fit_node ms v (moved v n k) ≡ b → ok_from ms v 0 n k
+          ≡ (passes v 0 n && fit_node ms v (moved v n k))
       go true p true q = rw (p, q, locate)
       go true p false q = rw (p, q, locate)
       go false p b q = rw (p, locate)
@@ -180,7 +176,8 @@ pub record Walking (ms t : Words) (root k top level run i n : ℕ) (ns : Words) 
   pub top-is : top ≡ height (view_from t root)
   pub tests : ok_from ms (view_from t root) level n k ≡ way_ok ms (view_from t root) k
   pub stands : take i ns ++ path_from (view_from t root) level n k ≡ path (view_from t root) k
-  pub run-on : run_from (full_at (view_from t root)) run (path_from (view_from t root) level n k) ≡ run_in (view_from t root) (path (view_from t root) k)
+  pub run-on : run_from (full_at (view_from t root)) run (path_from (view_from t root) level n k)
+      ≡ run_in (view_from t root) (path (view_from t root) k)
 
 module _ (ms t : Words) (root k top : ℕ) (e : top ≡ word_of t root 2) where
   high : top ≡ height (view_from t root)
@@ -204,7 +201,8 @@ module _ (ms t : Words) (root k top : ℕ) (e : top ≡ word_of t root 2) where
         top-is = high;
         tests = rw (w, high);
         stands = ap (λ (l : ℕ). path_from v l root k) high;
-        run-on = ap (λ (l : ℕ). run_from (full_at v) 0 (path_from v l root k)) high ∙ run-end (full_at v) (path v k) ∙ sym (run-in v (path v k));
+        run-on = ap (λ (l : ℕ). run_from (full_at v) 0 (path_from v l root k)) high ∙ run-end (full_at v) (path v k)
+            ∙ sym (run-in v (path v k));
       }
 
 module _ (ms : Words) (v : View) (n k : ℕ) where
@@ -251,7 +249,8 @@ after-short run shown = go (eqb shown 11)
 
 -- ---- a turn: r is the step at n
 
-module _ (ms t : Words) (root k top level run i n : ℕ) (ns : Words) (w : Walking ms t root k top level run i n ns) (r : Option Step) (e : r ≡ step_of ms (view t) level n k) where
+module _ (ms t : Words) (root k top level run i n : ℕ) (ns : Words) (w : Walking ms t root k top level run i n ns) (r : Option Step)
+    (e : r ≡ step_of ms (view t) level n k) where
   step-is : r ≡ step_of ms (view_from t root) level n k
   unfolding step_of step_ok passes on_level fit_node moved below
   step-is = e
@@ -290,47 +289,62 @@ module _ (ms t : Words) (root k top level run i n : ℕ) (ns : Words) (w : Walki
           top-is = w.top-is;
           tests = ap (λ (x : ℕ). ok_from ms v (level - 1) x k) q
               ∙ sym (ok-lower ms v n k level p ∙ ap (λ (b : Bool). b && ok_from ms v (level - 1) (down v m k) k) here.0) ∙ w.tests;
-          stands = rw (add-one i, one-more, q) (append_assoc (take i ns) (m ∷ []) (path_from v (level - 1) (down v m k) k) ∙ ap (λ (x : List ℕ). take i ns ++ x) (sym (path-lower ms v n k level p)) ∙ w.stands);
-          run-on = run-lower (full_at v) v n k s.node run _ stands-on counted level _ p (q ∙ ap (λ (x : ℕ). down v x k) (sym stands-on)) ∙ w.run-on;
+          stands = rw (add-one i, one-more, q)
+              (append_assoc (take i ns) (m ∷ []) (path_from v (level - 1) (down v m k) k)
+              ∙ ap (λ (x : List ℕ). take i ns ++ x) (sym (path-lower ms v n k level p)) ∙ w.stands);
+          run-on = run-lower (full_at v) v n k s.node run _ stands-on counted level _ p
+              (q ∙ ap (λ (x : ℕ). down v x k) (sym stands-on)) ∙ w.run-on;
         }
 
-    pub walking-next : (level ≡ 0 → ⊥) → (lower : ℕ) → lower ≡ level - 1 → Walking ms t root k top lower (run_after run s.shown) (i + 1) s.way (set ns i s.node)
+    pub walking-next : (level ≡ 0 → ⊥) → (lower : ℕ) → lower ≡ level - 1
+        → Walking ms t root k top lower (run_after run s.shown) (i + 1) s.way (set ns i s.node)
     walking-next h lower d = rw d (lower-turn h)
 
-    pub walked-end : level ≡ 0 → Walked ms (view_from t root) k (Some (record { height = top; run = run_after run s.shown; nodes = set ns i s.node }))
+    pub walked-end : level ≡ 0
+        → Walked ms (view_from t root) k (Some (record { height = top; run = run_after run s.shown; nodes = set ns i s.node }))
     walked-end h =
         let v = view_from t root in
         let at-end : height v ≡ i = omega (arith, w.top-is, w.sum, h) in
         record {
-          tests = sym (sym w.tests ∙ ap (λ (l : ℕ). ok_from ms v l n k) h ∙ ok-leaf ms v n k ∙ ap (λ (l : ℕ). step_ok ms v l n k) (sym h) ∙ here.0);
-          goes = λ y q. let same : y ≡ record { height = top; run = run_after run s.shown; nodes = set ns i s.node } = cc in rw same (record {
-            top = w.top-is;
-            stands = ap (λ (l : ℕ). take (suc l) (set ns i s.node)) at-end ∙ one-more ∙ ap (λ (x : List ℕ). take i ns ++ x) (sym (path-leaf ms v n k level h)) ∙ w.stands;
-            full = run-last (full_at v) v n k s.node run _ stands-on counted level (omega (arith, h)) ∙ w.run-on;
-          });
+          tests = sym (sym w.tests ∙ ap (λ (l : ℕ). ok_from ms v l n k) h ∙ ok-leaf ms v n k
+              ∙ ap (λ (l : ℕ). step_ok ms v l n k) (sym h) ∙ here.0);
+          goes = λ y q. let same :
+              y ≡ record { height = top; run = run_after run s.shown; nodes = set ns i s.node } = cc in rw same (record {
+                top = w.top-is;
+                stands = ap (λ (l : ℕ). take (suc l) (set ns i s.node)) at-end ∙ one-more
+                    ∙ ap (λ (x : List ℕ). take i ns ++ x) (sym (path-leaf ms v n k level h)) ∙ w.stands;
+                full = run-last (full_at v) v n k s.node run _ stands-on counted level (omega (arith, h)) ∙ w.run-on;
+              });
         }
 
 -- ---- a way along which every test passed
 
 module _ {n : ℕ} {ms t : Words} {k : ℕ} {w : Way} (a : Along n ms t k w) where
+  -- a way that was walked passes the tests on the way to k
   pub along-ok : way_ok ms (view_of n t) k ≡ true
   along-ok = sym a.walked.tests
 
+  -- a way that was walked has the height of the tree
   pub along-height : w.height ≡ height (view_of n t)
   along-height = (a.walked.goes w refl).top
 
+  -- a way that was walked has a height of at most 15
   pub along-low : w.height ≤ 15
   unfolding way_ok
   along-low = omega (arith, along-height, leb-true (height (view_of n t)) 15 ((and-iff (leb (height (view_of n t)) 15) _).0 along-ok).0)
 
+  -- the nodes of a way that was walked are the path to k
   pub along-path : take (suc w.height) w.nodes ≡ path (view_of n t) k
   along-path = ap (λ (l : ℕ). take (suc l) w.nodes) along-height ∙ (a.walked.goes w refl).stands
 
+  -- the run of a way that was walked is the run for k
   pub along-run : w.run ≡ run n t k
   along-run = (a.walked.goes w refl).full
 
+  -- the node of the way on level l is the one that the search for k stands on there
   pub along-on : (l x : ℕ) → x ≡ get_or w.nodes (w.height - l) 0 → x ≡ standing n t l k
   unfolding standing_in
   along-on l x e =
-      e ∙ sym (get_or-take (suc w.height) w.nodes (w.height - l) 0 (omega arith)) ∙ ap (λ (ns : List ℕ). get_or ns (w.height - l) 0) along-path
+      e ∙ sym (get_or-take (suc w.height) w.nodes (w.height - l) 0 (omega arith))
+      ∙ ap (λ (ns : List ℕ). get_or ns (w.height - l) 0) along-path
       ∙ ap (λ (h : ℕ). get_or (path (view_of n t) k) (h - l) 0) along-height

@@ -1,13 +1,7 @@
 -- What the call answers and leaves, from the tests in their order.
-use mathlib.Core.Path.{◌≡◌, refl, ap, sym, ◌∙◌}
-use mathlib.Core.Bool.{Bool, true, false, ◌||◌, or-false}
-use mathlib.Core.Logic.{◌≢◌}
-use mathlib.Core.List.{List, ◌++◌}
-use Prim.Native.Nat.{ℕ, zero, suc, ◌+◌, ◌*◌, ◌/◌, ◌≤◌, ◌<◌}
-use native.Mathlib.Omega.{arith}
-use lib.ListN.{length, take, drop, replicate}
-use lib.Seq.{take_at}
-use borrow.Author.Tests.{le-leb, lt-ltb, le-ltb}
+use Rattle.std.proofs.Common.{◌≡◌, ℕ, zero, suc, ◌+◌, ◌*◌, ◌/◌, ◌<◌, ◌≤◌, Bool, true, false, ◌||◌, ◌≢◌, List, ◌++◌, length, take, drop}
+use Rattle.std.proofs.Common.{replicate, sym, refl, ap, ◌∙◌, arith, take_at, le-ltb, lt-ltb, le-leb}
+use mathlib.Core.Bool.{or-false}
 use Rattle.std.specs.Prelude.{Err}
 use Rattle.model.specs.declared.Refusal.{Refusal}
 use Rattle.model.specs.declared.Refusal.TheVariants.{BadOrders, ShortFigures}
@@ -16,7 +10,8 @@ use Rattle.model.specs.Results.{Worn, refused_with, worn_with}
 use Rattle.model.specs.Table.{Words, header_ok, header_number, nodes}
 use Rattle.model.specs.SoundTest.{elem}
 use Rattle.model.specs.Orders.{Order, decode, all_inside, store_count, carry_number}
-use Rattle.model.specs.Wear.{stored_to, wear_of, largest, first_at, extents_of, extent_words, wear_number, figures, worn, lines_after, pairs_after}
+use Rattle.model.specs.Wear.{stored_to, wear_of, largest, first_at, extents_of, extent_words, wear_number, figures, worn, lines_after}
+use Rattle.model.specs.Wear.{pairs_after}
 use Rattle.model.proofs.Numbers.{refused-by}
 use Rattle.list_laws.proofs.Tools.{Each, Each-map}
 use Rattle.table_laws.proofs.Header.{header-iff, header-number-iff, header-number-refused}
@@ -31,12 +26,14 @@ abbrev pub Answers : (list lines pairs t : Words) (r : Worn) (l p : Words) → T
 Answers list lines pairs t r l p =
     (r ≡ worn list (length lines) (length pairs) t) × ((l ≡ lines_after list lines pairs t) × (p ≡ pairs_after list lines pairs t))
 
-refused : (list lines pairs t : Words) (n : ℕ) → wear_number list (length lines) (length pairs) t ≡ n → n ≢ 0 → Answers list lines pairs t (refused_with n) lines pairs
+refused : (list lines pairs t : Words) (n : ℕ) → wear_number list (length lines) (length pairs) t ≡ n → n ≢ 0
+    → Answers list lines pairs t (refused_with n) lines pairs
 unfolding worn lines_after pairs_after
 refused list lines pairs t zero e z = absurd (z refl)
 refused list lines pairs t (suc n) e z = rw e (refl, (refl, refl))
 
-refuses : (r : Refusal) (list lines pairs t : Words) → wear_number list (length lines) (length pairs) t ≡ refusal_number r → refusal_number r ≢ 0
+refuses : (r : Refusal) (list lines pairs t : Words) → wear_number list (length lines) (length pairs) t
+    ≡ refusal_number r → refusal_number r ≢ 0
     → Answers list lines pairs t (Err r) lines pairs
 refuses r list lines pairs t e z =
     let all = refused list lines pairs t (refusal_number r) e z in
@@ -47,7 +44,8 @@ module _ (l past : Words) (k : ℕ) (h : length l ≡ k) where
   pub part-length : k ≡ length (take k (l ++ past))
   part-length = sym (ap length (take_at l past k h) ∙ h)
 
-  pub part-most : (most first : ℕ) → (most ≡ largest (take k (l ++ past))) × (first ≡ first_at (largest (take k (l ++ past))) (take k (l ++ past)))
+  pub part-most : (most first : ℕ) → (most ≡ largest (take k (l ++ past)))
+      × (first ≡ first_at (largest (take k (l ++ past))) (take k (l ++ past)))
       → (most ≡ largest l) × (first ≡ first_at (largest l) l)
   part-most most first e = rw (take_at l past k h) at e
 
@@ -69,7 +67,9 @@ module _ (list t : Words) where
 
     pub outside : r ≡ false → (lines pairs : Words) → Answers list lines pairs t (Err BadOrders) lines pairs
     unfolding wear_number carry_number
-    outside f lines pairs = refuses BadOrders list lines pairs t (rw (ok, le-leb (length list / 2) (length list / 2) (omega arith), all-orders list, sym q ∙ f)) (λ y. omega arith)
+    outside f lines pairs =
+        refuses BadOrders list lines pairs t
+        (rw (ok, le-leb (length list / 2) (length list / 2) (omega arith), all-orders list, sym q ∙ f)) (λ y. omega arith)
 
     pub all-inside : r ≡ true → Inside list t
     all-inside f = record { header = ok; orders = sym q ∙ f }
@@ -106,12 +106,15 @@ module _ (list t : Words) (i : Inside list t) where
 
   pub few-lines : (lines pairs : Words) → length lines < length t / 8 → Answers list lines pairs t (Err ShortFigures) lines pairs
   unfolding wear_number
-  few-lines lines pairs h = refuses ShortFigures list lines pairs t (rw (carried, lt-ltb (length lines) (length t / 8) h)) (λ y. omega arith)
+  few-lines lines pairs h =
+      refuses ShortFigures list lines pairs t (rw (carried, lt-ltb (length lines) (length t / 8) h)) (λ y. omega arith)
 
-  module _ (marks : Words) (m : (w : ℕ) → has marks w ≡ elem w (stored_to os) || has (replicate 32768 0) w) (k : ℕ) (count : k ≡ length (extents_in (has marks) 0 (length t))) where
+  module _ (marks : Words) (m : (w : ℕ) → has marks w ≡ elem w (stored_to os) || has (replicate 32768 0) w) (k : ℕ)
+      (count : k ≡ length (extents_in (has marks) 0 (length t))) where
     extents : extents_in (has marks) 0 (length t) ≡ extents_of (length t) os
     unfolding extents_of
-    extents = extents-same (has marks) (λ (w : ℕ). elem w (stored_to os)) (λ w. m w ∙ ap (λ (b : Bool). elem w (stored_to os) || b) (none-marked 32768 w) ∙ or-false (elem w (stored_to os))) 0 (length t)
+    extents = extents-same (has marks) (λ (w : ℕ). elem w (stored_to os))
+        (λ w. m w ∙ ap (λ (b : Bool). elem w (stored_to os) || b) (none-marked 32768 w) ∙ or-false (elem w (stored_to os))) 0 (length t)
 
     pub pairs-few : k ≤ length t
     pairs-few = omega (arith, count, extents-few (has marks) 0 (length t))
@@ -122,7 +125,8 @@ module _ (list t : Words) (i : Inside list t) where
     module _ (lines pairs : Words) (enough : length t / 8 ≤ length lines) where
       pub few-pairs : length pairs < 2 * k → Answers list lines pairs t (Err ShortFigures) lines pairs
       unfolding wear_number
-      few-pairs h = refuses ShortFigures list lines pairs t (rw (carried, le-ltb (length lines) (length t / 8) enough, needed, lt-ltb (length pairs) (2 * k) h)) (λ y. omega arith)
+      few-pairs h = refuses ShortFigures list lines pairs t
+          (rw (carried, le-ltb (length lines) (length t / 8) enough, needed, lt-ltb (length pairs) (2 * k) h)) (λ y. omega arith)
 
       module _ (room : 2 * k ≤ length pairs) where
         accepted : wear_number list (length lines) (length pairs) t ≡ 0

@@ -1,12 +1,8 @@
 -- The bits of a word: shifted down, turned round, and the zeros below the lowest 1.
-use mathlib.Core.Path.{◌≡◌, refl, ap, sym, ◌∙◌}
-use mathlib.Core.Bool.{Bool, true, false, not, beq}
-use Prim.Native.Nat.{ℕ, zero, suc, ◌+◌, ◌-◌, ◌*◌, ◌/◌, ◌%◌, ◌^◌, ◌<◌}
-use native.Mathlib.Nat.{pow-suc, div-one}
-use native.Mathlib.Omega.{arith}
-use lib.Dec.{eqb}
+use Rattle.std.proofs.Common.{◌≡◌, ℕ, zero, suc, ◌+◌, ◌-◌, ◌*◌, ◌/◌, ◌%◌, ◌^◌, ◌<◌, Bool, true, false, not, eqb, sym, refl, ap, ◌∙◌}
+use Rattle.std.proofs.Common.{pow-suc, div-one, arith, shr-shr}
+use mathlib.Core.Bool.{beq}
 use lib.Count.{count_trailing_zeros, under}
-use lib.Pow.{shr-shr}
 use Rattle.wear.specs.Counting.{bit}
 
 -- the lowest bit; a bit of a half is the next of the whole
@@ -69,5 +65,6 @@ beq-false false = refl
 pub bits-marked : (word : ℕ) (wanted : Bool) → wanted ≡ true → (i : ℕ) → i < 64 → bit word i ≡ beq (bit word i) wanted
 bits-marked word wanted e i h = rw e (beq-true (bit word i))
 
-pub bits-unmarked : (word : ℕ) (wanted : Bool) → wanted ≡ false → word < 2 ^ 64 → (i : ℕ) → i < 64 → bit (18446744073709551615 - word) i ≡ beq (bit word i) wanted
+pub bits-unmarked : (word : ℕ) (wanted : Bool) → wanted ≡ false → word < 2 ^ 64 → (i : ℕ) → i < 64 → bit (18446744073709551615 - word) i
+    ≡ beq (bit word i) wanted
 bits-unmarked word wanted e f i h = rw e (bit-turned 64 word i f h ∙ beq-false (bit word i))

@@ -1,12 +1,6 @@
 -- Words marked, order by order.
-use mathlib.Core.Path.{◌≡◌, ap, sym, ◌∙◌}
-use mathlib.Core.Logic.{⊎_elim}
-use mathlib.Core.Bool.{Bool, ◌||◌, or_assoc, or_comm, or-false}
-use mathlib.Core.List.{List, [], ◌∷◌, ◌++◌}
-use Prim.Native.Nat.{ℕ, ◌*◌, ◌<◌}
-use lib.Dec.{eqb}
-use lib.ListN.{length}
-use borrow.Author.Tests.{eq-eqb, ne_eqb}
+use Rattle.std.proofs.Common.{◌≡◌, ℕ, ◌*◌, ◌<◌, Bool, ◌||◌, eqb, List, [], ◌∷◌, ◌++◌, length, sym, ap, ◌∙◌, ⊎_elim, eq-eqb, ne_eqb}
+use mathlib.Core.Bool.{or_assoc, or_comm, or-false}
 use Rattle.model.specs.Table.{Words, at}
 use Rattle.model.specs.SoundTest.{elem}
 use Rattle.model.specs.Orders.{Order, order_of, decode}
@@ -22,7 +16,8 @@ use Rattle.wear.proofs.Turns.{elem-order}
 
 -- what is marked after w is marked
 has-put : (marks : Words) (x : ℕ) → x < 64 * length marks → (w : ℕ) → has (put marks x) w ≡ eqb w x || has marks w
-has-put marks x h w = ⊎_elim (λ e. rw (eq-eqb w x e, e) (has-put-same marks x h)) (λ d. rw (ne_eqb w x d) (has-put-other marks x w h d)) (same-or-not w x)
+has-put marks x h w =
+    ⊎_elim (λ e. rw (eq-eqb w x e, e) (has-put-same marks x h)) (λ d. rw (ne_eqb w x d) (has-put-other marks x w h d)) (same-or-not w x)
 
 -- ---- one store
 
@@ -31,7 +26,8 @@ module _ (order : ListedOrder) (word value : ℕ) (e : order ≡ Store word valu
   unfolding stored_to
   mark-below m h = (rw e at h).0
 
-  pub mark-put : (marks : Words) → word < 64 * length marks → (new : Words) → new ≡ put marks word → (w : ℕ) → has new w ≡ elem w (stored_to (meant order ∷ [])) || has marks w
+  pub mark-put : (marks : Words) → word < 64 * length marks → (new : Words) → new ≡ put marks word → (w : ℕ) → has new w
+      ≡ elem w (stored_to (meant order ∷ [])) || has marks w
   unfolding elem stored_to
   mark-put marks h new q w = rw (q, e, or-false (eqb w word)) (has-put marks word h w)
 
@@ -42,13 +38,15 @@ abbrev pub Marking : (list marks₀ ws marks : Words) → Type 0
 Marking list marks₀ ws marks = (w : ℕ) → elem w (stored_to (decode ws)) || has marks w ≡ elem w (stored_to (decode list)) || has marks₀ w
 
 module _ (list marks₀ ws marks : Words) (e : Marking list marks₀ ws marks) where
-  pub marking-next : (pair after : Words) → ws ≡ pair ++ after → length pair ≡ 2 → (o : Order) → o ≡ order_of (at pair 0) (at pair 1) → (new : Words)
+  pub marking-next : (pair after : Words) → ws ≡ pair ++ after → length pair ≡ 2 → (o : Order) → o
+      ≡ order_of (at pair 0) (at pair 1) → (new : Words)
       → ((w : ℕ) → has new w ≡ elem w (stored_to (o ∷ [])) || has marks w) → Marking list marks₀ after new
   marking-next pair after p two o s new q w =
       let next : decode ws ≡ o ∷ decode after = next-order ws pair after p two ∙ ap (λ (x : Order). x ∷ decode after) (sym s) in
       rw (q w)
       (swap (elem w (stored_to (decode after))) (elem w (stored_to (o ∷ []))) (has marks w)
-      ∙ sym (ap (λ (b : Bool). b || has marks w) (ap (λ (os : List Order). elem w (stored_to os)) next ∙ elem-order w o (decode after))) ∙ e w)
+      ∙ sym (ap (λ (b : Bool). b || has marks w) (ap (λ (os : List Order). elem w (stored_to os)) next ∙ elem-order w o (decode after)))
+      ∙ e w)
     where
       swap : (a b c : Bool) → a || (b || c) ≡ (b || a) || c
       swap a b c = sym (or_assoc a b c) ∙ ap (λ (x : Bool). x || c) (or_comm a b)

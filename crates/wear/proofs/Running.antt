@@ -1,14 +1,7 @@
 -- Extents counted and written one by one: the next one, and the end.
-use mathlib.Core.Path.{◌≡◌, ap, sym, ◌∙◌}
-use mathlib.Core.Logic.{⊎_elim}
-use mathlib.Core.Bool.{Bool, true, false}
-use mathlib.Core.List.{List, [], ◌∷◌, ◌++◌, append_assoc, append-nil}
-use Prim.Native.Nat.{ℕ, suc, ◌+◌, ◌-◌, ◌*◌, ◌/◌, ◌≤◌, ◌<◌}
+use Rattle.std.proofs.Common.{◌≡◌, ℕ, suc, ◌+◌, ◌-◌, ◌*◌, ◌/◌, ◌<◌, ◌≤◌, Bool, true, false, List, [], ◌∷◌, ◌++◌, length, take, set, sym, ap}
+use Rattle.std.proofs.Common.{◌∙◌, ⊎_elim, append_assoc, append-nil, add-one, arith, length-set, take_all, take-suc-set}
 use native.Mathlib.Nat.{sub-zero}
-use native.Mathlib.Numerals.{add-one}
-use native.Mathlib.Omega.{arith}
-use lib.ListN.{length, take, set, length-set}
-use lib.Seq.{take-suc-set, take_all}
 use Rattle.std.proofs.lemmas.Bool.{cases_lt}
 use Rattle.std.proofs.lemmas.List.{nil_from_length}
 use Rattle.model.specs.Table.{Words}
@@ -35,7 +28,8 @@ module _ (f : ℕ → Bool) (len : ℕ) where
   unfolding numbers filter join_all
   left-none w h = let e : len - w ≡ 0 = omega arith in rw e
 
-  pub counted-end : (w : ℕ) → len ≤ w → (pairs : ℕ) → pairs + length (left w) ≡ length (extents_in f 0 len) → pairs ≡ length (extents_in f 0 len)
+  pub counted-end : (w : ℕ) → len ≤ w → (pairs : ℕ) → pairs + length (left w) ≡ length (extents_in f 0 len) → pairs
+      ≡ length (extents_in f 0 len)
   counted-end w h pairs q = omega (arith, ap length (left-none w h))
 
   module _ (w e v : ℕ) (h : w < len) (y : f w ≡ true) (s : Sought f false w len e) (t : Sought f true e len v) where
@@ -46,7 +40,8 @@ module _ (f : ℕ → Bool) (len : ℕ) where
     left-longer = omega (arith, sought-longer f len w e h y s, t.after)
 
     -- one pair more is counted
-    pub counted-next : (pairs : ℕ) → pairs + length (left w) ≡ length (extents_in f 0 len) → (pairs + 1) + length (left v) ≡ length (extents_in f 0 len)
+    pub counted-next : (pairs : ℕ) → pairs + length (left w) ≡ length (extents_in f 0 len) → (pairs + 1) + length (left v)
+        ≡ length (extents_in f 0 len)
     counted-next pairs q = omega (arith, ap length left-next)
 
 -- ---- written
@@ -55,7 +50,8 @@ module _ (f : ℕ → Bool) (len : ℕ) where
 take-two : (ws : Words) (n x y : ℕ) → n + 1 < length ws → take (suc (suc n)) (set (set ws n x) (n + 1) y) ≡ take n ws ++ x ∷ y ∷ []
 take-two ws n x y h =
     rw (add-one n)
-    (take-suc-set (set ws n x) (suc n) y (omega (arith, length-set ws n x)) ∙ ap (λ (l : Words). l ++ (y ∷ [])) (take-suc-set ws n x (omega arith))
+    (take-suc-set (set ws n x) (suc n) y (omega (arith, length-set ws n x))
+    ∙ ap (λ (l : Words). l ++ (y ∷ [])) (take-suc-set ws n x (omega arith))
     ∙ append_assoc (take n ws) (x ∷ []) (y ∷ []))
 
 -- k pairs are written and those from w on are left; there is room for just these
@@ -93,5 +89,6 @@ module _ (f : ℕ → Bool) (len : ℕ) (pairs : Words) where
             words =
                 rw two
                 (ap (λ (l : Words). l ++ extent_words (left f len v)) (take-two pairs (2 * k) w (e - w) written-room)
-                ∙ append_assoc (take (2 * k) pairs) (w ∷ (e - w) ∷ []) _ ∙ ap (λ (es : List Extent). take (2 * k) pairs ++ extent_words es) (sym n) ∙ i.words);
+                ∙ append_assoc (take (2 * k) pairs) (w ∷ (e - w) ∷ []) _
+                ∙ ap (λ (es : List Extent). take (2 * k) pairs ++ extent_words es) (sym n) ∙ i.words);
           }

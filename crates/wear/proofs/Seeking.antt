@@ -1,12 +1,8 @@
 -- The next number that is marked, or that is not: within a word, and one word after another.
-use mathlib.Core.Path.{◌≡◌, refl, ap, sym, ◌∙◌}
-use mathlib.Core.Logic.{⊎_elim}
-use mathlib.Core.Bool.{Bool, true, false, not, beq, false≢true}
-use Prim.Native.Nat.{ℕ, ◌+◌, ◌-◌, ◌/◌, ◌%◌, ◌^◌, ◌≤◌, ◌<◌, min}
-use native.Mathlib.Omega.{arith}
-use lib.Dec.{eqb}
+use Rattle.std.proofs.Common.{◌≡◌, ℕ, ◌+◌, ◌-◌, ◌/◌, ◌%◌, ◌^◌, ◌<◌, ◌≤◌, min, Bool, true, false, not, eqb, sym, refl, ap, ◌∙◌, ⊎_elim}
+use Rattle.std.proofs.Common.{arith, shr-shr}
+use mathlib.Core.Bool.{beq, false≢true}
 use lib.Count.{count_trailing_zeros}
-use lib.Pow.{shr-shr}
 use Rattle.std.proofs.lemmas.Bool.{cases_lt}
 use Rattle.model.specs.Table.{Words, at}
 use Rattle.list_laws.proofs.Tools.{compared}
@@ -53,14 +49,20 @@ module _ (marks : Words) (w : ℕ) where
     before n h l v a b = let q : v ≡ w + (v - w) = omega arith in rw q (passed (v - w) (omega arith) (omega arith))
 
     word-passed : 64 - w % 64 < zeros → Sought (has marks) wanted w (w + (64 - w % 64)) (w + (64 - w % 64))
-    word-passed h = record { after = omega arith; within = omega arith; before = before (64 - w % 64) (omega arith) (omega arith); found = λ l. absurd (omega arith) }
+    word-passed h = record {
+      after = omega arith;
+      within = omega arith;
+      before = before (64 - w % 64) (omega arith) (omega arith);
+      found = λ l. absurd (omega arith);
+    }
 
     word-found : zeros ≤ 64 - w % 64 → Sought (has marks) wanted w (w + (64 - w % 64)) (w + zeros)
     word-found h = record {
       after = omega arith;
       within = omega arith;
       before = before zeros (omega arith) h;
-      found = λ l. mark-bit zeros (omega arith) ∙ same (bit word zeros) wanted (sym (e zeros (omega arith)) ∙ zeros-end 64 bits (omega arith));
+      found = λ l. mark-bit zeros (omega arith)
+          ∙ same (bit word zeros) wanted (sym (e zeros (omega arith)) ∙ zeros-end 64 bits (omega arith));
     }
 
     pub word-least : Sought (has marks) wanted w (w + (64 - w % 64)) (w + min zeros (64 - w % 64))
@@ -80,7 +82,8 @@ module _ (f : ℕ → Bool) (wanted : Bool) (from w : ℕ) (h : from ≤ w) (pas
     seek-next v a b = ⊎_elim (λ l. passed v a l) (λ o. s.before v (⊎_elim (λ q. omega arith) (λ q. omega arith) o) b) (compared v w)
 
     pub seek-none : (len : ℕ) → w ≤ len → len - w ≤ n → Sought f wanted from len len
-    seek-none len l m = record { after = omega arith; within = omega arith; before = λ v a b. seek-next v a (omega arith); found = λ z. absurd (omega arith) }
+    seek-none len l m = record
+        { after = omega arith; within = omega arith; before = λ v a b. seek-next v a (omega arith); found = λ z. absurd (omega arith) }
 
     pub seek-found : (len : ℕ) → n < len - w → w + n < end → Sought f wanted from len (w + n)
     seek-found len m l = record { after = omega arith; within = omega arith; before = seek-next; found = λ _. s.found l }

@@ -1,14 +1,7 @@
 -- Stores counted at their lines, order by order; and the most over the lines from a line on.
-use mathlib.Core.Path.{◌≡◌, refl, ap, sym, ◌∙◌}
-use mathlib.Core.Logic.{◌≢◌, ⊎_elim}
-use mathlib.Core.Bool.{Bool, true, false, cond}
-use mathlib.Core.List.{List, [], ◌∷◌, ◌++◌, append-nil, append_assoc}
-use Prim.Native.Nat.{ℕ, ◌+◌, ◌*◌, ◌/◌, ◌≤◌, ◌<◌}
-use native.Mathlib.Omega.{arith}
-use lib.Dec.{eqb, ltb}
-use lib.ListN.{length, length-append, set, replicate}
-use lib.Seq.{get_or-set_same, get_or-set_other, ext_get_or}
-use borrow.Author.Tests.{eq-eqb, ne_eqb, ltb-true, ltb-false}
+use Rattle.std.proofs.Common.{◌≡◌, ℕ, ◌+◌, ◌*◌, ◌/◌, ◌<◌, ◌≤◌, Bool, true, false, cond, eqb, ltb, ◌≢◌, List, [], ◌∷◌, ◌++◌, length, set}
+use Rattle.std.proofs.Common.{replicate, sym, refl, ap, ◌∙◌, ⊎_elim, append_assoc, append-nil, arith, length-append, get_or-set_other}
+use Rattle.std.proofs.Common.{get_or-set_same, ext_get_or, ltb-false, ltb-true, eq-eqb, ne_eqb}
 use Rattle.model.specs.Table.{Words, at, line}
 use Rattle.model.specs.Search.{filter}
 use Rattle.model.specs.declared.ListedOrder.{ListedOrder}
@@ -37,7 +30,8 @@ module _ (order : ListedOrder) (word value : ℕ) (e : order ≡ Store word valu
   unfolding stored_to
   tally-inside h = let l = (rw e at h).0 in omega arith
 
-  pub tally-one : word / 8 < length lines → (1 ≡ store_count (meant order ∷ [])) × Tallied (meant order) lines (set lines (word / 8) (at lines (word / 8) + 1))
+  pub tally-one : word / 8 < length lines → (1 ≡ store_count (meant order ∷ []))
+      × Tallied (meant order) lines (set lines (word / 8) (at lines (word / 8) + 1))
   unfolding stored_to store_count stores_to filter
   tally-one h = (rw e refl, λ l. rw (e, on-line-cons word [] l) (⊎_elim (here l) (there l) (same-or-not l (word / 8))))
     where
@@ -45,7 +39,8 @@ module _ (order : ListedOrder) (word value : ℕ) (e : order ≡ Store word valu
       here l q = rw (q, eq-eqb (word / 8) (word / 8) refl) (get_or-set_same lines (word / 8) (at lines (word / 8) + 1) 0 h ∙ omega arith)
 
       there : (l : ℕ) → l ≢ word / 8 → at (set lines (word / 8) (at lines (word / 8) + 1)) l ≡ at lines l + (one (line word) l + 0)
-      there l q = rw (ne_eqb (word / 8) l (λ z. q (sym z))) (get_or-set_other lines (word / 8) l (at lines (word / 8) + 1) 0 q ∙ omega arith)
+      there l q = rw (ne_eqb (word / 8) l (λ z. q (sym z)))
+          (get_or-set_other lines (word / 8) l (at lines (word / 8) + 1) 0 q ∙ omega arith)
 
 -- ---- one turn
 
@@ -66,13 +61,22 @@ module _ (list ws : Words) (total : ℕ) (lines : Words) (t : Tally list ws tota
   pub tally-few : (l : ℕ) → at lines l ≤ length list / 2
   tally-few l = omega (arith, t.counted l, few l)
 
-  module _ (pair after : Words) (p : ws ≡ pair ++ after) (two : length pair ≡ 2) (o : Order) (is : o ≡ order_of (at pair 0) (at pair 1)) where
+  module _ (pair after : Words) (p : ws ≡ pair ++ after) (two : length pair ≡ 2) (o : Order)
+      (is : o ≡ order_of (at pair 0) (at pair 1)) where
     next : decode ws ≡ o ∷ decode after
     next = next-order ws pair after p two ∙ ap (λ (x : Order). x ∷ decode after) (sym is)
 
     pub total-few : (r : ℕ) → r ≡ store_count (o ∷ []) → total + r ≤ length list / 2
     total-few r q =
-        omega (arith, t.summed, ap store_count next, count-order o (decode after), stored-count (decode list), stored-few (decode list), decode-length list)
+        omega (
+          arith,
+          t.summed,
+          ap store_count next,
+          count-order o (decode after),
+          stored-count (decode list),
+          stored-few (decode list),
+          decode-length list,
+        )
 
     pub tally-next : (r : ℕ) → r ≡ store_count (o ∷ []) → (new : Words) → Tallied o lines new → Tally list after (total + r) new
     tally-next r e new q = record {
@@ -90,7 +94,12 @@ module _ (list ws : Words) (total : ℕ) (lines : Words) (t : Tally list ws tota
     tally-lines n e =
         let m : 8 * n / 8 ≡ n = omega arith in
         ext_get_or 0 lines (wear_of (8 * n) (decode list)) (omega (arith, wear-length (8 * n) (decode list)))
-        (λ l u. omega (arith, t.counted l, ap (λ (os : List Order). stores_to os l) (no-order ws h), wear-at (8 * n) (decode list) l (omega arith)))
+        (λ l u. omega (
+          arith,
+          t.counted l,
+          ap (λ (os : List Order). stores_to os l) (no-order ws h),
+          wear-at (8 * n) (decode list) l (omega arith),
+        ))
 
 -- ---- the most over the lines from the last on
 
@@ -105,13 +114,15 @@ pub most-none : (lines : Words) → MostAfter lines lines (record { largest = 0;
 unfolding largest first_at
 most-none lines = record { later = []; parts = append-nil lines; largest-is = refl; first-is = omega arith }
 
-pub most-all : (lines rest : Words) (m : Most) → length rest ≡ 0 → MostAfter lines rest m → (m.largest ≡ largest lines) × (m.first ≡ first_at (largest lines) lines)
+pub most-all : (lines rest : Words) (m : Most) → length rest ≡ 0 → MostAfter lines rest m → (m.largest ≡ largest lines)
+    × (m.first ≡ first_at (largest lines) lines)
 most-all lines [] m e was =
     let all = was.largest-is ∙ ap largest was.parts in
     (all, omega (arith, was.first-is, ap (first_at m.largest) was.parts, ap (λ (n : ℕ). first_at n lines) all))
 most-all lines (x ∷ rest) m e was = omega (arith, e)
 
-module _ (lines rest : Words) (m : Most) (was : MostAfter lines rest m) (before : Words) (here : ℕ) (last : rest ≡ before ++ here ∷ []) where
+module _ (lines rest : Words) (m : Most) (was : MostAfter lines rest m) (before : Words) (here : ℕ)
+    (last : rest ≡ before ++ here ∷ []) where
   abbrev i : ℕ
   i = length before
 
@@ -125,12 +136,22 @@ module _ (lines rest : Words) (m : Most) (was : MostAfter lines rest m) (before 
   stays l =
       let rest-most = largest-later here was.later (omega (arith, was.largest-is)) in
       let past = first-later here was.later m.largest (λ e. omega arith) in
-      record { later = here ∷ was.later; parts = parts-next; largest-is = was.largest-is ∙ sym rest-most; first-is = omega (arith, was.first-is, past, one-more) }
+      record {
+        later = here ∷ was.later;
+        parts = parts-next;
+        largest-is = was.largest-is ∙ sym rest-most;
+        first-is = omega (arith, was.first-is, past, one-more);
+      }
 
   moves : m.largest ≤ here → MostAfter lines before (record { largest = here; first = i })
   moves l =
       let first = first-here here was.later here refl in
-      record { later = here ∷ was.later; parts = parts-next; largest-is = sym (largest-here here was.later (omega (arith, was.largest-is))); first-is = omega (arith, first) }
+      record {
+        later = here ∷ was.later;
+        parts = parts-next;
+        largest-is = sym (largest-here here was.later (omega (arith, was.largest-is)));
+        first-is = omega (arith, first);
+      }
 
   pub most-next : (at : ℕ) → at ≡ i → (r : Most) → r ≡ or_here m at here → MostAfter lines before r
   most-next at q r e = rw (e, q) (go (ltb here m.largest) refl)

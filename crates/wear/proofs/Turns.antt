@@ -1,11 +1,6 @@
 -- Orders taken one by one: what the next one adds to the words marked and to the lines' numbers.
-use mathlib.Core.Path.{◌≡◌, refl, ap, sym, ◌∙◌}
-use mathlib.Core.Bool.{Bool, ◌||◌, or-false}
-use mathlib.Core.List.{List, [], ◌∷◌, ◌++◌}
-use Prim.Native.Nat.{ℕ, ◌+◌, ◌*◌, ◌<◌}
-use native.Mathlib.Omega.{arith}
-use lib.Dec.{eqb}
-use lib.ListN.{length}
+use Rattle.std.proofs.Common.{◌≡◌, ℕ, ◌+◌, ◌*◌, ◌<◌, Bool, ◌||◌, eqb, List, [], ◌∷◌, ◌++◌, length, sym, refl, ap, ◌∙◌, arith}
+use mathlib.Core.Bool.{or-false}
 use Rattle.model.specs.Table.{Words, at}
 use Rattle.model.specs.Search.{filter}
 use Rattle.model.specs.SoundTest.{elem}
@@ -26,7 +21,8 @@ elem-order w (store s) os = ap (λ (x : Bool). x || elem w (stored_to os)) (sym 
 elem-order w (flush l) os = refl
 elem-order w barrier os = refl
 
-pub each-order : (P : ℕ → Type 0) (o : Order) (os : List Order) → Each P (stored_to (o ∷ os)) → Each P (stored_to (o ∷ [])) × Each P (stored_to os)
+pub each-order : (P : ℕ → Type 0) (o : Order) (os : List Order) → Each P (stored_to (o ∷ os))
+    → Each P (stored_to (o ∷ [])) × Each P (stored_to os)
 unfolding stored_to
 each-order P (store s) os h = ((h.0, tt), h.1)
 each-order P (flush l) os h = (tt, h)
@@ -51,7 +47,8 @@ below-as k m n ws e h = rw e h
 -- ---- the orders of the words left, of which a turn takes the first two
 
 -- what holds of the words that are stored to holds of the next order's and of those after it
-module _ (ws pair after : Words) (e : ws ≡ pair ++ after) (two : length pair ≡ 2) (n : ℕ) (b : Each (λ (w : ℕ). w < n) (stored_to (decode ws))) where
+module _ (ws pair after : Words) (e : ws ≡ pair ++ after) (two : length pair ≡ 2) (n : ℕ)
+    (b : Each (λ (w : ℕ). w < n) (stored_to (decode ws))) where
   both : Each (λ (w : ℕ). w < n) (stored_to (order_of (at pair 0) (at pair 1) ∷ [])) × Each (λ (w : ℕ). w < n) (stored_to (decode after))
   both = each-order (λ (w : ℕ). w < n) _ _ (rw (next-order ws pair after e two) at b)
 
@@ -69,7 +66,8 @@ nothing-stored (Store word value) z = absurd (z word value refl)
 nothing-stored (Flush line) z = refl
 nothing-stored Barrier z = refl
 
-pub no-stores : (order : ListedOrder) → ((word value : ℕ) → order ≡ Store word value → ⊥) → (0 ≡ store_count (meant order ∷ [])) × ((l : ℕ) → 0 ≡ stores_to (meant order ∷ []) l)
+pub no-stores : (order : ListedOrder) → ((word value : ℕ) → order ≡ Store word value → ⊥) → (0 ≡ store_count (meant order ∷ []))
+    × ((l : ℕ) → 0 ≡ stores_to (meant order ∷ []) l)
 unfolding store_count stored_to stores_to filter
 no-stores (Store word value) z = absurd (z word value refl)
 no-stores (Flush line) z = (refl, λ l. refl)

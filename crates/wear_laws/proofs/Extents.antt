@@ -1,13 +1,8 @@
 -- Extents: a word lies in one exactly if it has a store; they rise and do not touch; and they are found run by run.
-use mathlib.Core.Path.{◌≡◌, refl, ap, sym, ◌∙◌}
-use mathlib.Core.Bool.{Bool, true, false, ◌&&◌, ◌||◌, or_assoc, false≢true}
-use mathlib.Core.Logic.{◌≢◌, ⊎_elim}
-use mathlib.Core.List.{List, [], ◌∷◌}
-use Prim.Native.Nat.{ℕ, zero, suc, ◌+◌, ◌-◌, ◌≤◌, ◌<◌}
-use native.Mathlib.Omega.{arith}
-use lib.Dec.{eqb, leb, ltb}
-use lib.ListN.{length}
-use borrow.Author.Tests.{eq-eqb, ne_eqb, le-leb, lt-ltb, lt-leb, le-ltb}
+use Rattle.std.proofs.Common.{◌≡◌, ℕ, zero, suc, ◌+◌, ◌-◌, ◌<◌, ◌≤◌, Bool, true, false, ◌&&◌, ◌||◌, eqb, ltb, leb, ◌≢◌, List, [], ◌∷◌}
+use Rattle.std.proofs.Common.{length, sym, refl, ap, ◌∙◌, ⊎_elim, arith, le-ltb, lt-ltb, eq-eqb, ne_eqb, le-leb}
+use mathlib.Core.Bool.{or_assoc, false≢true}
+use borrow.Author.Tests.{lt-leb}
 use Rattle.model.specs.Search.{filter}
 use Rattle.model.specs.SoundTest.{elem}
 use Rattle.model.specs.Orders.{Order, all_inside}
@@ -67,7 +62,8 @@ among-more w v n = ⊎_elim below (⊎_elim same above) (compared w v)
     same e = rw (le-leb v w (omega arith), lt-ltb w (v + suc n) (omega arith), eq-eqb w v e)
 
     above : v < w → among w v (suc n) ≡ eqb w v || among w (suc v) n
-    above l = let e : v + suc n ≡ suc v + n = omega arith in rw (le-leb v w (omega arith), ne_eqb w v (λ e. omega arith), le-leb (suc v) w (omega arith), e)
+    above l = let e : v + suc n ≡ suc v + n =
+        omega arith in rw (le-leb v w (omega arith), ne_eqb w v (λ e. omega arith), le-leb (suc v) w (omega arith), e)
 
 covered-joined : (w v : ℕ) (es : List Extent) → covered w (joined v es) ≡ eqb w v || covered w es
 unfolding covered
@@ -75,11 +71,13 @@ covered-joined w v [] = rw (among-one w v)
 covered-joined w v (e ∷ es) = ⊎_elim touching apart (same-or-not e.offset (suc v))
   where
     touching : e.offset ≡ suc v → covered w (joined v (e ∷ es)) ≡ eqb w v || covered w (e ∷ es)
-    touching h = unfold covered in rw (joined-touching v e es h) (ap (λ (b : Bool). b || covered w es) (among-more w v e.size) ∙ or_assoc (eqb w v) (among w (suc v) e.size) (covered w es)
+    touching h = unfold covered in rw (joined-touching v e es h)
+        (ap (λ (b : Bool). b || covered w es) (among-more w v e.size) ∙ or_assoc (eqb w v) (among w (suc v) e.size) (covered w es)
         ∙ ap (λ (o : ℕ). eqb w v || (among w o e.size || covered w es)) (sym h))
 
     apart : e.offset ≢ suc v → covered w (joined v (e ∷ es)) ≡ eqb w v || covered w (e ∷ es)
-    apart h = unfold covered in rw (joined-apart v e es h) (ap (λ (b : Bool). b || (among w e.offset e.size || covered w es)) (among-one w v))
+    apart h = unfold covered in rw (joined-apart v e es h)
+        (ap (λ (b : Bool). b || (among w e.offset e.size || covered w es)) (among-one w v))
 
 covered-all : (w : ℕ) (vs : List ℕ) → covered w (join_all vs) ≡ elem w vs
 unfolding covered join_all elem
@@ -90,7 +88,8 @@ elem-row : (w from count : ℕ) → from ≤ w → w < from + count → elem w (
 unfolding elem numbers
 elem-row w from zero h l = absurd (omega arith)
 elem-row w from (suc c) h l =
-    ⊎_elim (λ e. rw (eq-eqb w from e)) (λ e. or-right (eqb w from) _ (elem-row w (suc from) c (omega arith) (omega arith))) (same-or-not w from)
+    ⊎_elim (λ e. rw (eq-eqb w from e))
+    (λ e. or-right (eqb w from) _ (elem-row w (suc from) c (omega arith) (omega arith))) (same-or-not w from)
 
 -- A word lies in an extent exactly if it has a store.
 pub extents-cover : (n : ℕ) (os : List Order) → all_inside n os ≡ true → (w : ℕ) → covered w (extents_of n os) ≡ elem w (stored_to os)
@@ -106,7 +105,8 @@ extents-cover n os i w = covered-all w (filter has (numbers 0 n)) ∙ same-test 
     back : has w ≡ true → elem w (filter has (numbers 0 n)) ≡ true
     back h =
         let l : w < 0 + n = omega (arith, each-elem (λ (v : ℕ). v < n) w (stored_to os) h (stored-inside n os i)) in
-        (elem-iff w (filter has (numbers 0 n))).1 ((mem-filter has w (numbers 0 n)).1 ((elem-iff w (numbers 0 n)).0 (elem-row w 0 n (omega arith) l), h))
+        (elem-iff w (filter has (numbers 0 n))).1
+        ((mem-filter has w (numbers 0 n)).1 ((elem-iff w (numbers 0 n)).0 (elem-row w 0 n (omega arith) l), h))
 
 -- ---- they rise and do not touch
 
@@ -152,8 +152,10 @@ extents-apart n os = (extents-rise (λ (w : ℕ). elem w (stored_to os)) 0 n).1
 joined-few : (w : ℕ) (es : List Extent) → length (joined w es) ≤ suc (length es)
 joined-few w [] = omega arith
 joined-few w (e ∷ es) =
-    ⊎_elim (λ h. omega (arith, ap length (joined-touching w e es h))) (λ h. omega (arith, ap length (joined-apart w e es h))) (same-or-not e.offset (suc w))
+    ⊎_elim (λ h. omega (arith, ap length (joined-touching w e es h))) (λ h. omega (arith, ap length (joined-apart w e es h)))
+    (same-or-not e.offset (suc w))
 
+-- among so many words there are at most so many extents
 pub extents-few : (f : ℕ → Bool) (from count : ℕ) → length (extents_in f from count) ≤ count
 unfolding filter numbers join_all
 extents-few f from zero = omega arith
@@ -189,29 +191,36 @@ module _ (f : ℕ → Bool) where
   ends-from w (suc c) h = rw (extents-no f w c (h (omega arith))) (extents-rise f (suc w) c).0
 
   -- a word at each of d + 1 words, and none after them
-  run : (w d c : ℕ) → ((v : ℕ) → w ≤ v → v < w + suc d → f v ≡ true) → Ends (w + suc d) c → extents_in f w (suc d + c) ≡ extent w (suc d) ∷ extents_in f (w + suc d) c
+  run : (w d c : ℕ) → ((v : ℕ) → w ≤ v → v < w + suc d → f v ≡ true) → Ends (w + suc d) c → extents_in f w (suc d + c) ≡ extent w (suc d)
+      ∷ extents_in f (w + suc d) c
   run w zero c h n =
       let p : 1 + c ≡ suc c = omega arith in
       let q : w + 1 ≡ suc w = omega arith in
-      rw (p, q) (extents-yes f w c (h w (omega arith) (omega arith)) ∙ joined-first w (extents_in f (suc w) c) (ends-from (suc w) c (rw q at n)))
+      rw (p, q) (extents-yes f w c (h w (omega arith) (omega arith))
+      ∙ joined-first w (extents_in f (suc w) c) (ends-from (suc w) c (rw q at n)))
   run w (suc d) c h n =
       let p : suc (suc d) + c ≡ suc (suc d + c) = omega arith in
       let q : w + suc (suc d) ≡ suc w + suc d = omega arith in
       rw (p, q)
-      (extents-yes f w (suc d + c) (h w (omega arith) (omega arith)) ∙ ap (joined w) (run (suc w) d c (λ v a b. h v (omega arith) (omega arith)) (rw q at n))
+      (extents-yes f w (suc d + c) (h w (omega arith) (omega arith))
+      ∙ ap (joined w) (run (suc w) d c (λ v a b. h v (omega arith) (omega arith)) (rw q at n))
       ∙ joined-touching w (extent (suc w) (suc d)) (extents_in f (suc w + suc d) c) refl)
 
   -- with what a search for the next word, and for the next gap, says
   module _ (len w r : ℕ) where
+    -- the extents from w on are those from the first word on for which f holds
     pub sought-past : w ≤ len → Sought f true w len r → extents_in f w (len - w) ≡ extents_in f r (len - r)
     sought-past h s =
         let p : len - w ≡ (r - w) + (len - r) = omega (arith, s.after, s.within) in
         let q : w + (r - w) ≡ r = omega (arith, s.after) in
         rw p (past w (r - w) (len - r) (λ v a b. s.before v a (omega arith)) ∙ rw q)
 
+    -- from a word for which f holds, the first one for which it does not comes later
     pub sought-longer : w < len → f w ≡ true → Sought f false w len r → w < r
-    sought-longer h e s = ⊎_elim (λ q. absurd (false≢true (sym (s.found (omega arith)) ∙ ap f (sym q) ∙ e))) (λ q. omega (arith, s.after)) (same-or-not w r)
+    sought-longer h e s =
+        ⊎_elim (λ q. absurd (false≢true (sym (s.found (omega arith)) ∙ ap f (sym q) ∙ e))) (λ q. omega (arith, s.after)) (same-or-not w r)
 
+    -- from a word for which f holds the first extent runs to where f ends, and the others come after it
     pub sought-run : w < len → f w ≡ true → Sought f false w len r → extents_in f w (len - w) ≡ extent w (r - w) ∷ extents_in f r (len - r)
     sought-run h e s =
         let l = sought-longer h e s in
@@ -222,5 +231,6 @@ module _ (f : ℕ → Bool) where
 
 -- tests that agree give the same extents
 module _ (f g : ℕ → Bool) (h : (w : ℕ) → f w ≡ g w) where
+  -- tests that agree give the same extents
   pub extents-same : (from count : ℕ) → extents_in f from count ≡ extents_in g from count
   extents-same from count = ap (λ (q : ℕ → Bool). extents_in q from count) (λ i w. h w i)

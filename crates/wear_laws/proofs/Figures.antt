@@ -1,11 +1,6 @@
 -- What the figures of every accepted call say.
-use mathlib.Core.Path.{◌≡◌, refl, ap, sym, ◌∙◌}
-use mathlib.Core.Bool.{Bool, true, false, cond, ◌&&◌}
-use mathlib.Core.List.{List, [], ◌∷◌, map}
-use Prim.Native.Nat.{ℕ, zero, suc, ◌+◌, ◌*◌, ◌/◌, ◌≤◌}
-use native.Mathlib.Omega.{arith}
-use lib.Dec.{leb}
-use lib.ListN.{length, take}
+use Rattle.std.proofs.Common.{◌≡◌, ℕ, zero, suc, ◌+◌, ◌*◌, ◌/◌, ◌≤◌, Bool, true, false, cond, ◌&&◌, leb, List, [], ◌∷◌, map, length, take}
+use Rattle.std.proofs.Common.{sym, refl, ap, ◌∙◌, arith}
 use Rattle.model.specs.Table.{Words, nodes, header_ok}
 use Rattle.model.specs.Search.{filter}
 use Rattle.model.specs.SoundTest.{elem}
@@ -31,7 +26,8 @@ none-extents : (n : ℕ) (os : List Order) → store_count os ≡ 0 → extents_
 unfolding extents_of join_all
 none-extents n os e =
     let has : ℕ → Bool = λ w. elem w (stored_to os) in
-    ap join_all (filter-none has (numbers 0 n) (mem-each (λ (w : ℕ). has w ≡ false) (numbers 0 n) (λ w m. no-words (stored_to os) (sym (stored-count os) ∙ e) w)))
+    ap join_all (filter-none has (numbers 0 n)
+    (mem-each (λ (w : ℕ). has w ≡ false) (numbers 0 n) (λ w m. no-words (stored_to os) (sym (stored-count os) ∙ e) w)))
 
 -- a list wears as it does without its barriers
 module _ (words : ℕ) (os : List Order) where
@@ -46,7 +42,8 @@ module _ (words : ℕ) (os : List Order) where
   pub figures-without : figures words (without_barriers os) ≡ figures words os
   unfolding figures
   figures-without =
-      let c : store_count (without_barriers os) ≡ store_count os = stored-count (without_barriers os) ∙ ap length (stored-without os) ∙ sym (stored-count os) in
+      let c : store_count (without_barriers os) ≡ store_count os =
+      stored-count (without_barriers os) ∙ ap length (stored-without os) ∙ sym (stored-count os) in
       rw (c, wear-without, extents-without)
 
 -- orders inside a table of n lines
@@ -81,7 +78,9 @@ pub wear-figures : (list t : Words) (lines pairs : ℕ) → wear_number list lin
 unfolding wear_number carry_number
 wear-figures list t lines pairs e =
     let n = length list / 2 in
-    let u = both-passed (header_ok t) (leb n n && all_inside (length t) (take n (decode list))) (carried-zero (carry_number n list t) _ e) in
-    let inside = ap (all_inside (length t)) (sym (all-orders list)) ∙ ((and-iff (leb n n) (all_inside (length t) (take n (decode list)))).0 u.1).1 in
+    let u = both-passed (header_ok t) (leb n n && all_inside (length t) (take n (decode list)))
+    (carried-zero (carry_number n list t) _ e) in
+    let inside = ap (all_inside (length t)) (sym (all-orders list))
+    ∙ ((and-iff (leb n n) (all_inside (length t) (take n (decode list)))).0 u.1).1 in
     let m : length t ≡ 8 * (1 + 4 * nodes t) = omega (arith, ((header-iff t).0 u.0).size.long) in
     rw m (figured (1 + 4 * nodes t) (decode list) (omega arith) (rw m at inside))

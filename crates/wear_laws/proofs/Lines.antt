@@ -1,14 +1,8 @@
 -- The per-line numbers: counts of the list that sum to the total; the largest is one of them, and the first line is the first that has it.
-use mathlib.Core.Path.{◌≡◌, refl, ap, ap₂, sym, ◌∙◌}
-use mathlib.Core.Bool.{Bool, true, false, cond}
-use mathlib.Core.Logic.{◌≢◌, ⊎_elim}
-use mathlib.Core.List.{List, [], ◌∷◌, map}
-use Prim.Native.Nat.{ℕ, zero, suc, ◌+◌, ◌*◌, ◌/◌, ◌≤◌, ◌<◌}
+use Rattle.std.proofs.Common.{◌≡◌, ℕ, zero, suc, ◌+◌, ◌*◌, ◌/◌, ◌<◌, ◌≤◌, Bool, true, false, cond, eqb, ◌≢◌, List, [], ◌∷◌, map, length}
+use Rattle.std.proofs.Common.{sym, refl, ap, ◌∙◌, ap₂, ⊎_elim, arith, eq-eqb, ne_eqb}
 use native.Mathlib.Nat.{le-max_left, le-max_right, max-eq_left, max-eq_right, max-le}
-use native.Mathlib.Omega.{arith}
-use lib.Dec.{eqb}
-use lib.ListN.{length, length-map}
-use borrow.Author.Tests.{eq-eqb, ne_eqb}
+use lib.ListN.{length-map}
 use Rattle.model.specs.Lists.{sum}
 use Rattle.model.specs.Table.{Words, at, line}
 use Rattle.model.specs.Search.{filter}
@@ -31,6 +25,7 @@ on_line ws l = length (filter (λ (w : ℕ). eqb (line w) l) ws)
 abbrev pub one : ℕ → ℕ → ℕ
 one k l = cond (eqb k l) 1 0
 
+-- a word more counts one more on its own line
 pub on-line-cons : (w : ℕ) (ws : List ℕ) (l : ℕ) → on_line (w ∷ ws) l ≡ one (line w) l + on_line ws l
 on-line-cons w ws l = go (eqb (line w) l) refl
   where
@@ -68,21 +63,25 @@ module _ (k from c : ℕ) where
 sum-one : (k from count : ℕ) → from ≤ k → k < from + count → sum (map (one k) (numbers from count)) ≡ 1
 unfolding numbers row
 sum-one k from zero h l = absurd (omega arith)
-sum-one k from (suc c) h l = ⊎_elim (sum-here k from c) (λ e. sum-after k from c (sum-one k (suc from) c (omega arith) (omega arith)) e) (same-or-not k from)
+sum-one k from (suc c) h l =
+    ⊎_elim (sum-here k from c) (λ e. sum-after k from c (sum-one k (suc from) c (omega arith) (omega arith)) e) (same-or-not k from)
 
 -- the words on each of n lines, of words that all lie on these lines
 sum-lines : (n : ℕ) (ws : List ℕ) → Each (λ (w : ℕ). line w < n) ws → sum (map (on_line ws) (numbers 0 n)) ≡ length ws
 unfolding filter
 sum-lines n [] e = sum-none (on_line []) (numbers 0 n) (λ l. refl)
 sum-lines n (w ∷ ws) e = sum-same (on_line (w ∷ ws)) (λ (l : ℕ). one (line w) l + on_line ws l) (numbers 0 n) (on-line-cons w ws)
-    ∙ sum-add (one (line w)) (on_line ws) (numbers 0 n) ∙ ap₂ (λ (a b : ℕ). a + b) (let h = e.0 in sum-one (line w) 0 n (omega arith) (omega arith)) (sum-lines n ws e.1) ∙ omega arith
+    ∙ sum-add (one (line w)) (on_line ws) (numbers 0 n)
+    ∙ ap₂ (λ (a b : ℕ). a + b) (let h = e.0 in sum-one (line w) 0 n (omega arith) (omega arith)) (sum-lines n ws e.1) ∙ omega arith
 
 -- The per-line numbers of a list inside a table sum to its stores.
 pub wear-sum : (n : ℕ) (os : List Order) → all_inside (8 * n) os ≡ true → sum (wear_of (8 * n) os) ≡ store_count os
 unfolding wear_of stores_to
 wear-sum n os e =
     let l : 8 * n / 8 ≡ n = omega arith in
-    rw l (sum-lines n (stored_to os) (Each-map (λ (w : ℕ). w < 8 * n) (λ (w : ℕ). line w < n) (stored_to os) (λ w h. omega arith) (stored-inside (8 * n) os e)) ∙ sym (stored-count os))
+    rw l (sum-lines n (stored_to os)
+    (Each-map (λ (w : ℕ). w < 8 * n) (λ (w : ℕ). line w < n) (stored_to os) (λ w h. omega arith) (stored-inside (8 * n) os e))
+    ∙ sym (stored-count os))
 
 -- ---- a line's number
 
@@ -92,6 +91,7 @@ row-at f from zero i h = absurd (omega arith)
 row-at f from (suc c) zero h = let e : from + 0 ≡ from = omega arith in rw e
 row-at f from (suc c) (suc i) h = let e : from + suc i ≡ suc from + i = omega arith in rw e (row-at f (suc from) c i (omega arith))
 
+-- there is a figure for each line of the table
 pub wear-length : (words : ℕ) (os : List Order) → length (wear_of words os) ≡ words / 8
 unfolding wear_of
 wear-length words os = length-map (numbers 0 (words / 8)) (stores_to os) ∙ numbers-length 0 (words / 8)
@@ -110,18 +110,22 @@ largest-top (n ∷ ns) zero = le-max_left n (largest ns)
 largest-top (n ∷ ns) (suc l) = omega (arith, largest-top ns l, le-max_right n (largest ns))
 
 module _ (m : ℕ) (ms : Words) where
+  -- the first figure is the largest if no later one is above it
   pub largest-here : largest ms ≤ m → largest (m ∷ ms) ≡ m
   unfolding largest
   largest-here h = max-eq_left h
 
+  -- the largest of the later figures is the largest if the first is not above it
   pub largest-later : m ≤ largest ms → largest (m ∷ ms) ≡ largest ms
   unfolding largest
   largest-later h = max-eq_right h
 
+  -- the place of the first n is 0 if the first figure is n
   pub first-here : (n : ℕ) → m ≡ n → first_at n (m ∷ ms) ≡ 0
   unfolding first_at
   first-here n e = rw (eq-eqb m n e)
 
+  -- the place of the first n is one more than among the later figures if the first figure is not n
   pub first-later : (n : ℕ) → m ≢ n → first_at n (m ∷ ms) ≡ suc (first_at n ms)
   unfolding first_at
   first-later n e = rw (ne_eqb m n e)
@@ -160,7 +164,8 @@ unfolding first_at
 first-before n [] l h = absurd (omega arith)
 first-before n (m ∷ ms) zero h = λ e. omega (arith, first-here m ms n e)
 first-before n (m ∷ ms) (suc l) h =
-    ⊎_elim (λ e. absurd (omega (arith, first-here m ms n e))) (λ e. first-before n ms l (omega (arith, first-later m ms n e))) (same-or-not m n)
+    ⊎_elim (λ e. absurd (omega (arith, first-here m ms n e)))
+    (λ e. first-before n ms l (omega (arith, first-later m ms n e))) (same-or-not m n)
 
 -- ---- no stores
 
@@ -178,4 +183,5 @@ first-zero (n ∷ ns) e = first-here n ns 0 (omega (arith, largest-top (n ∷ ns
 pub none-largest : (n : ℕ) (os : List Order) → all_inside (8 * n) os ≡ true → store_count os ≡ 0
     → (largest (wear_of (8 * n) os) ≡ 0) × (first_at (largest (wear_of (8 * n) os)) (wear_of (8 * n) os) ≡ 0)
 none-largest n os i e =
-    let z : largest (wear_of (8 * n) os) ≡ 0 = omega (arith, largest-sum (wear_of (8 * n) os), wear-sum n os i) in (z, rw z (first-zero _ z))
+    let z : largest (wear_of (8 * n) os) ≡ 0 =
+    omega (arith, largest-sum (wear_of (8 * n) os), wear-sum n os i) in (z, rw z (first-zero _ z))

@@ -1,18 +1,13 @@
 -- The store that links a node: a sibling's number.
-use mathlib.Core.Path.{◌≡◌}
-use mathlib.Core.Bool.{true, ◌&&◌}
-use Prim.Native.Nat.{ℕ, suc, ◌+◌}
-use native.Mathlib.Numerals.{add-one}
-use native.Mathlib.Omega.{arith}
-use lib.Dec.{eqb}
-use lib.ListN.{length, set}
+use Rattle.std.proofs.Common.{◌≡◌, ℕ, suc, ◌+◌, true, ◌&&◌, eqb, length, set, add-one, arith}
 use Rattle.model.specs.Table.{Words, at, has_node, node_start, node, spare, all_zero}
 use Rattle.model.specs.Slots.{in_use, slots_of, shown, hidden_slots, clear_in, used, node_view}
 use Rattle.model.specs.Orders.{put}
 use Rattle.view_laws.proofs.NodeViews.{ButAt, joining}
 use Rattle.table_laws.proofs.Nodes.{has-node-iff}
 use Rattle.word_laws.proofs.Outside.{Outside, outside-start, outside-store, outside-wider}
-use Rattle.word_laws.proofs.Frames.{SameHeader, left-same, level-same, fence-same, spare-same, slots-same, Elsewhere, else-header, view-else, sibling-stored}
+use Rattle.word_laws.proofs.Frames.{SameHeader, left-same, level-same, fence-same, spare-same, slots-same, Elsewhere, else-header}
+use Rattle.word_laws.proofs.Frames.{view-else, sibling-stored}
 
 module _ (t : Words) (a b : ℕ) (h : has_node t a ≡ true) where
   abbrev t' : Words
@@ -55,5 +50,6 @@ module _ (t : Words) (a b : ℕ) (h : has_node t a ≡ true) where
   pub sibling-view : ButAt (node_view t) (node_view (set t (suc (node_start a)) b)) a (joining (node_view t a) b)
   sibling-view = rw add-one at view'
 
+  -- storing a sibling in node a keeps the header
   pub sibling-header : SameHeader t (set t (suc (node_start a)) b)
   sibling-header = rw (add-one (node_start a)) at (else-header t t' a elsewhere)

@@ -1,11 +1,8 @@
 -- A node made from its header words and slots: it shows these slots, hides none and is clear.
-use mathlib.Core.Path.{◌≡◌, refl, ap, ◌∙◌}
-use mathlib.Core.Bool.{true}
-use mathlib.Core.List.{List, [], ◌∷◌, ◌++◌}
-use Prim.Native.Nat.{ℕ, zero, suc, ◌+◌, ◌*◌, ◌-◌, ◌≤◌}
-use native.Mathlib.Omega.{arith}
-use lib.ListN.{length, take, replicate, length-append, length-take, length-replicate}
-use lib.Seq.{take-append-add, take-take, get_or-append-add}
+use Rattle.std.proofs.Common.{◌≡◌, ℕ, zero, suc, ◌+◌, ◌-◌, ◌*◌, ◌≤◌, true, List, [], ◌∷◌, ◌++◌, length, take, replicate, refl, ap, ◌∙◌}
+use Rattle.std.proofs.Common.{arith, length-append, length-take, take-take, get_or-append-add}
+use lib.ListN.{length-replicate}
+use lib.Seq.{take-append-add}
 use Rattle.model.specs.Table.{Words, at, has_node, node_start, node, node_from, spare, all_zero}
 use Rattle.model.specs.Slots.{Slot, slot, slots_of, slot_words, clear_in, used, node_view}
 use Rattle.model.specs.Orders.{apply}
@@ -50,7 +47,9 @@ filled-take ss h =
 filled-last : (ss : List Slot) → length ss ≤ 11 → pointer_at (filled ss) 11 ≡ 0
 filled-last ss h =
     let e : 11 ≡ length ss + (11 - length ss) = omega arith in
-    ap (λ (n : ℕ). pointer_at (filled ss) n) e ∙ ap (λ (s : Slot). s.pointer) (get_or-append-add ss (take (12 - length ss) (zeros 12)) (11 - length ss) (slot 0 0)) ∙ zeros-pointer (12 - length ss) 12 (11 - length ss)
+    ap (λ (n : ℕ). pointer_at (filled ss) n) e
+    ∙ ap (λ (s : Slot). s.pointer) (get_or-append-add ss (take (12 - length ss) (zeros 12)) (11 - length ss) (slot 0 0))
+    ∙ zeros-pointer (12 - length ss) 12 (11 - length ss)
 
 -- ---- its words
 
@@ -58,6 +57,7 @@ module _ (left sibling level fence : ℕ) (ss : List Slot) where
   abbrev words : Words
   words = node_words left sibling level fence ss
 
+  -- the words of a node are 32
   pub length-node-words : length (node_words left sibling level fence ss) ≡ 32
   unfolding node_words
   length-node-words = simp (length-append, length-take, length-replicate) (omega arith)
@@ -68,7 +68,8 @@ module _ (left sibling level fence : ℕ) (ss : List Slot) where
 
 -- ---- the node
 
-module _ (t : Words) (b left sibling level fence : ℕ) (ss : List Slot) (h : has_node t b ≡ true) (a : AllShown left ss) (l : length ss ≤ 11) where
+module _ (t : Words) (b left sibling level fence : ℕ) (ss : List Slot) (h : has_node t b ≡ true) (a : AllShown left ss)
+    (l : length ss ≤ 11) where
   abbrev after : Words
   after = apply (put_all (node_start b) (node_words left sibling level fence ss)) t
 
@@ -104,7 +105,9 @@ module _ (t : Words) (b left sibling level fence : ℕ) (ss : List Slot) (h : ha
   unfolding clear_in
   made-clear = simp decode (made-spare, made-last)
 
-  pub new-node : node_view (apply (put_all (node_start b) (node_words left sibling level fence ss)) t) b ≡ new_node left sibling level fence ss
+  -- node b, after its 32 words are stored, reads as the new node with these header words and slots
+  pub new-node : node_view (apply (put_all (node_start b) (node_words left sibling level fence ss)) t) b
+      ≡ new_node left sibling level fence ss
   unfolding node_words node_from
   new-node = λ i. record {
     left = (made i).left;

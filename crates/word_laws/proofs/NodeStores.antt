@@ -1,12 +1,7 @@
 -- All words of a node stored in rising order: the node that they make, and every other node as before.
-use mathlib.Core.Path.{◌≡◌, refl, ap, sym, ◌∙◌}
-use mathlib.Core.Bool.{true}
-use mathlib.Core.List.{[], ◌∷◌, ◌++◌, append_assoc}
-use Prim.Native.Nat.{ℕ, suc, ◌+◌, ◌≤◌, ◌<◌}
-use native.Mathlib.Nat.{add-zero}
-use native.Mathlib.Omega.{arith}
-use lib.ListN.{length, take, drop, set, length-drop}
-use lib.Seq.{sets, sets-eq, drop-append-add, drop-append-le, take-append-le, length-take-le}
+use Rattle.std.proofs.Common.{◌≡◌, ℕ, suc, ◌+◌, ◌<◌, ◌≤◌, true, [], ◌∷◌, ◌++◌, length, take, drop, set, sym, refl, ap, ◌∙◌, append_assoc}
+use Rattle.std.proofs.Common.{add-zero, arith, length-drop, length-take-le}
+use lib.Seq.{sets, sets-eq, drop-append-add, drop-append-le, take-append-le}
 use Rattle.model.specs.Table.{Words, at, has_node, node_start, node, node_from, spare}
 use Rattle.model.specs.Orders.{apply}
 use Rattle.model.specs.Writes.{put_all}
@@ -25,13 +20,17 @@ put-all-into a n w (x ∷ ws) h l = ((h, omega arith), put-all-into a n (suc w) 
 
 -- Before and after each store of a node's words every other node is as it was.
 pub put-all-along : (t : Words) (b : ℕ) (ws : Words) → length ws ≤ 32 → Along do_store (Elsewhere b t) (put_all (node_start b) ws) t
-put-all-along t b ws h = outside-along (node_start b) 32 t (put_all (node_start b) ws) (put-all-into (node_start b) 32 (node_start b) ws (omega arith) (omega arith))
+put-all-along t b ws h =
+    outside-along (node_start b) 32 t (put_all (node_start b) ws)
+    (put-all-into (node_start b) 32 (node_start b) ws (omega arith) (omega arith))
 
+-- storing at most 32 words from the start of node b on changes no word outside that node
 pub put-all-elsewhere : (t : Words) (b : ℕ) (ws : Words) → length ws ≤ 32 → Elsewhere b t (apply (put_all (node_start b) ws) t)
 put-all-elsewhere t b ws h = after-whole (Elsewhere b t) (Elsewhere b t) (put_all (node_start b) ws) t (put-all-along t b ws h)
 
 -- ---- the words stored
 
+-- storing words from w on, one after another, sets the words from w on to them
 pub put-all-sets : (w : ℕ) (ws t : Words) → apply (put_all w ws) t ≡ sets t w ws
 unfolding put_all apply
 put-all-sets w [] t = refl
@@ -43,7 +42,13 @@ module _ (w : ℕ) (ws t : Words) (h : w + length ws ≤ length t) where
       let r = drop (w + length ws) t in
       let e : apply (put_all w ws) t ≡ take w t ++ (ws ++ r) = put-all-sets w ws t ∙ sets-eq ws t w h ∙ append_assoc (take w t) ws r in
       let n : w + c ≡ length (take w t) + c = rw (length-take-le w t (omega arith)) in
-      rw (e, n, drop-append-add (take w t) (ws ++ r) c, drop-append-le c ws r (omega arith), take-append-le k (drop c ws) r (simp length-drop (omega arith)))
+      rw (
+        e,
+        n,
+        drop-append-add (take w t) (ws ++ r) c,
+        drop-append-le c ws r (omega arith),
+        take-append-le k (drop c ws) r (simp length-drop (omega arith)),
+      )
 
   stored-word : (j : ℕ) → j < length ws → at (apply (put_all w ws) t) (w + j) ≡ at ws j
   stored-word j l =

@@ -1,10 +1,6 @@
 -- Words outside a stretch that stores went to: what of a table reads the same.
-use mathlib.Core.Path.{◌≡◌, refl, sym, ◌∙◌}
-use mathlib.Core.List.{List}
-use Prim.Native.Nat.{ℕ, ◌+◌, ◌≤◌, ◌<◌}
-use native.Mathlib.Omega.{arith}
-use lib.ListN.{length, take, drop, length-set, length-take, length-drop}
-use lib.Seq.{get_or-set_other, ext_get_or}
+use Rattle.std.proofs.Common.{◌≡◌, ℕ, ◌+◌, ◌<◌, ◌≤◌, List, length, take, drop, sym, refl, ◌∙◌, arith, length-drop, length-set, length-take}
+use Rattle.std.proofs.Common.{get_or-set_other, ext_get_or}
 use Rattle.model.specs.Table.{Words, at}
 use Rattle.model.specs.Orders.{Store}
 use Rattle.list_laws.proofs.Tools.{Each}
@@ -17,6 +13,7 @@ pub record Outside (a n : ℕ) (t t' : Words) : Type 0 where
   pub long : length t' ≡ length t
   pub same : (w : ℕ) → (a ≤ w → w < a + n → ⊥) → at t' w ≡ at t w
 
+-- a table does not differ from itself outside any part
 pub outside-start : (a n : ℕ) (t : Words) → Outside a n t t
 outside-start a n t = record { long = refl; same = λ w z. refl }
 
@@ -24,12 +21,19 @@ outside-start a n t = record { long = refl; same = λ w z. refl }
 abbrev pub Into : (a n : ℕ) → Store → Type 0
 Into a n q = (a ≤ q.word) × (q.word < a + n)
 
+-- a store into n words from a on changes no word outside them
 pub outside-store : (a n : ℕ) (t t' : Words) (q : Store) → Into a n q → Outside a n t t' → Outside a n t (do_store q t')
-outside-store a n t t' q h o = record { long = length-set t' q.word q.value ∙ o.long; same = λ w z. get_or-set_other t' q.word w q.value 0 (λ e. z (omega arith) (omega arith)) ∙ o.same w z }
+outside-store a n t t' q h o =
+    record {
+      long = length-set t' q.word q.value ∙ o.long;
+      same = λ w z. get_or-set_other t' q.word w q.value 0 (λ e. z (omega arith) (omega arith)) ∙ o.same w z;
+    }
 
 pub outside-along : (a n : ℕ) (t : Words) (qs : List Store) → Each (Into a n) qs → Along do_store (Outside a n t) qs t
-outside-along a n t qs e = along-each do_store (Outside a n t) (Into a n) (λ q t' i o. outside-store a n t t' q i o) qs t e (outside-start a n t)
+outside-along a n t qs e =
+    along-each do_store (Outside a n t) (Into a n) (λ q t' i o. outside-store a n t t' q i o) qs t e (outside-start a n t)
 
+-- what changes nothing outside a part changes nothing outside a wider one
 pub outside-wider : (a n b m : ℕ) (t t' : Words) → b ≤ a → a + n ≤ b + m → Outside a n t t' → Outside b m t t'
 outside-wider a n b m t t' h g o = record { long = o.long; same = λ w z. o.same w (λ l u. z (omega arith) (omega arith)) }
 

@@ -1,9 +1,5 @@
 -- The words of slots: what a store to a key word or a pointer word does to the slots.
-use mathlib.Core.Path.{◌≡◌, refl, ap}
-use mathlib.Core.List.{List, [], ◌∷◌}
-use Prim.Native.Nat.{ℕ, zero, suc, ◌*◌}
-use native.Mathlib.Omega.{arith}
-use lib.ListN.{length, set}
+use Rattle.std.proofs.Common.{◌≡◌, ℕ, zero, suc, ◌*◌, List, [], ◌∷◌, length, set, refl, ap, arith}
 use Rattle.model.specs.Table.{Words, at}
 use Rattle.model.specs.Slots.{Slot, slot, slots_of}
 use Rattle.list_laws.proofs.Tools.{double-suc}
@@ -27,6 +23,7 @@ slots-of-pointer (suc i) [] y = refl
 slots-of-pointer (suc i) (k ∷ []) y = refl
 slots-of-pointer (suc i) (k ∷ p ∷ ws) y = rw (double-suc i) (ap (λ (l : List Slot). slot k p ∷ l) (slots-of-pointer i ws y))
 
+-- word 2i + 1 of the slot words is the pointer of slot i
 pub at-pointer : (i : ℕ) (ws : Words) → at ws (suc (2 * i)) ≡ pointer_at (slots_of ws) i
 unfolding slots_of
 at-pointer i [] = refl
@@ -34,6 +31,7 @@ at-pointer i (k ∷ []) = refl
 at-pointer zero (k ∷ p ∷ ws) = refl
 at-pointer (suc i) (k ∷ p ∷ ws) = rw (double-suc i) (at-pointer i ws)
 
+-- twice n words are n slots
 pub length-slots : (n : ℕ) (ws : Words) → length ws ≡ 2 * n → length (slots_of ws) ≡ n
 unfolding slots_of
 length-slots zero [] e = refl

@@ -1,11 +1,5 @@
 -- What is read of a node after stores to its slots: its header and spare words are as before, and so is every other node.
-use mathlib.Core.Path.{◌≡◌, ap}
-use mathlib.Core.Bool.{true, ◌&&◌}
-use mathlib.Core.List.{List}
-use Prim.Native.Nat.{ℕ, ◌+◌}
-use native.Mathlib.Omega.{arith}
-use lib.Dec.{eqb}
-use lib.ListN.{length}
+use Rattle.std.proofs.Common.{◌≡◌, ℕ, ◌+◌, true, ◌&&◌, eqb, List, length, ap, arith}
 use Rattle.model.specs.Table.{Words, has_node, node_start, node, spare, all_zero}
 use Rattle.model.specs.Slots.{Slot, in_use, shown, hidden_slots, clear_in, used, NodeView, node_view}
 use Rattle.view_laws.proofs.NodeViews.{ButAt}

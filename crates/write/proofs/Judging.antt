@@ -1,12 +1,7 @@
 -- The tests that all writing calls share, one by one, and what their answer says of every call.
-use mathlib.Core.Path.{◌≡◌, refl, ap, sym, ◌∙◌}
-use mathlib.Core.Logic.{◌≢◌}
-use mathlib.Core.Bool.{Bool, true, false, cond, false≢true}
-use mathlib.Core.List.{List, [], ◌∷◌, ◌++◌}
-use Prim.Native.Nat.{ℕ, zero, suc, ◌-◌, ◌≤◌, ◌<◌}
-use native.Mathlib.Omega.{arith}
-use lib.ListN.{get_or}
-use borrow.Author.Tests.{ltb-false, lt-ltb, le-ltb}
+use Rattle.std.proofs.Common.{◌≡◌, ℕ, zero, suc, ◌-◌, ◌<◌, ◌≤◌, Bool, true, false, cond, ◌≢◌, List, [], ◌∷◌, ◌++◌, get_or, sym, refl, ap}
+use Rattle.std.proofs.Common.{◌∙◌, arith, ltb-false, le-ltb, lt-ltb}
+use mathlib.Core.Bool.{false≢true}
 use Rattle.std.specs.Prelude as rust
 use Rattle.std.proofs.Math.Option.{Option}
 use Rattle.std.specs.Prelude.{is_some, None, Some, Ok, Err}
@@ -53,7 +48,8 @@ module _ (words dock : ℕ) (t : Words) (n : ℕ) where
   unfolding judged shared number_in
   wrong-collection z = go (header_ok t) (no_collection n t) refl refl
     where
-      go : (a b : Bool) → header_ok t ≡ a → no_collection n t ≡ b → refused_with (cond (header_ok t) (cond (no_collection n t) 17 0) 2) ≡ judged (no_collection n t) words dock t
+      go : (a b : Bool) → header_ok t ≡ a → no_collection n t ≡ b → refused_with (cond (header_ok t) (cond (no_collection n t) 17 0) 2)
+          ≡ judged (no_collection n t) words dock t
       go false b f g = rw (f, judged, shared)
       go true true f g = rw (f, g, judged, shared)
       go true false f g = absurd (z (rw (f, g)))
@@ -87,7 +83,15 @@ module _ (words dock : ℕ) (t : Words) (header : header_ok t ≡ true) where
 
       pub all-passed : least ≤ words → Ok (record { leftover = x; reached = n }) ≡ judged false words dock t
       unfolding judged shared
-      all-passed h = rw (header, found.is-sound, le-ltb 1 dock ok, le-ltb words (words_for dock) (rw l at h), (checked-sound t x n).1 found, judged, shared)
+      all-passed h = rw (
+        header,
+        found.is-sound,
+        le-ltb 1 dock ok,
+        le-ltb words (words_for dock) (rw l at h),
+        (checked-sound t x n).1 found,
+        judged,
+        shared,
+      )
 
 -- the words that a list for the dock must have
 pub words-ordered : (dock : ℕ) → dock_of dock ≡ Ordered → 2560 ≡ words_for dock
@@ -100,11 +104,13 @@ words-unordered (suc n) e = refl
 
 -- ---- what the answer says
 
+-- if one of the first tests holds, its number is that of all tests
 pub first-shared : (cs ds : List Test) → first_number cs ≢ 0 → first_number (cs ++ ds) ≡ first_number cs
 first-shared [] ds z = absurd (z refl)
 first-shared (c ∷ cs) ds z = go c.holds z (first-shared cs ds)
   where
-    go : (b : Bool) → cond b c.number (first_number cs) ≢ 0 → (first_number cs ≢ 0 → first_number (cs ++ ds) ≡ first_number cs) → cond b c.number (first_number (cs ++ ds)) ≡ cond b c.number (first_number cs)
+    go : (b : Bool) → cond b c.number (first_number cs) ≢ 0 → (first_number cs ≢ 0 → first_number (cs ++ ds) ≡ first_number cs)
+        → cond b c.number (first_number (cs ++ ds)) ≡ cond b c.number (first_number cs)
     go true w ih = refl
     go false w ih = ih w
 
@@ -126,8 +132,14 @@ record SharedPassed (seventeen : Bool) (words dock : ℕ) (t : Words) : Type 0 w
 shared-passed : (seventeen : Bool) (words dock : ℕ) (t : Words) → shared seventeen words dock t ≡ 0 → SharedPassed seventeen words dock t
 unfolding shared
 shared-passed seventeen words dock t e =
-    let h = (none-holds (shared_tests seventeen words dock t) ((λ e. omega arith), ((λ e. omega arith), ((λ e. omega arith), ((λ e. omega arith), ((λ e. omega arith), tt)))))).0 e in
-    record { collection = h.1.0; sound = (not-false-iff _).0 h.1.1.0; dock-ok = ltb-false 1 dock h.1.1.1.0; long = ltb-false words (words_for dock) h.1.1.1.1.0 }
+    let h = (none-holds (shared_tests seventeen words dock t)
+    ((λ e. omega arith), ((λ e. omega arith), ((λ e. omega arith), ((λ e. omega arith), ((λ e. omega arith), tt)))))).0 e in
+    record {
+      collection = h.1.0;
+      sound = (not-false-iff _).0 h.1.1.0;
+      dock-ok = ltb-false 1 dock h.1.1.1.0;
+      long = ltb-false words (words_for dock) h.1.1.1.1.0;
+    }
 
 module _ (y : Call) (words dock : ℕ) (t : Words) where
   abbrev number : ℕ
@@ -142,12 +154,17 @@ module _ (y : Call) (words dock : ℕ) (t : Words) where
   unfolding refusal shared
   shared-refused z = first-shared (shared_tests (seventeen_in y t) words dock t) later z
 
-  pub judged-refused : (r : Refusal) → judged (seventeen_in y t) words dock t ≡ Err r → (refusal y words dock t ≢ 0) × ◌≡◌ {A = Written} (refused_with (refusal y words dock t)) (Err r)
+  pub judged-refused :
+      (r : Refusal) → judged (seventeen_in y t) words dock t ≡ Err r → (refusal y words dock t ≢ 0)
+      × ◌≡◌ {A = Written} (refused_with (refusal y words dock t)) (Err r)
   unfolding judged
   judged-refused r = go number refl
     where
-      go : (m : ℕ) → number ≡ m → judged (seventeen_in y t) words dock t ≡ Err r → (refusal y words dock t ≢ 0) × ◌≡◌ {A = Written} (refused_with (refusal y words dock t)) (Err r)
-      go zero e q = absurd (false≢true (sym ((checked-unsound t).0 (refused-unsound (checked t) r (rw (e, judged) at q))) ∙ (shared-passed (seventeen_in y t) words dock t e).sound))
+      go : (m : ℕ) → number ≡ m → judged (seventeen_in y t) words dock t ≡ Err r → (refusal y words dock t ≢ 0)
+          × ◌≡◌ {A = Written} (refused_with (refusal y words dock t)) (Err r)
+      go zero e q = absurd
+          (false≢true (sym ((checked-unsound t).0 (refused-unsound (checked t) r (rw (e, judged) at q)))
+          ∙ (shared-passed (seventeen_in y t) words dock t e).sound))
       go (suc m) e q =
           let f : refused_with (suc m) ≡ Err r = rw (e, judged) at q in
           let same : refusal_of (suc m) ≡ r = cc in
@@ -160,6 +177,7 @@ module _ (y : Call) (words dock : ℕ) (t : Words) where
     pub dock-ok : dock ≤ 1
     pub long : words_for dock ≤ words
 
+  -- if the shared tests pass, the table is sound, the collection there, the dock right, and the list long enough
   pub judged-ready : (s : Sound) → judged (seventeen_in y t) words dock t ≡ Ok s → Passed s.leftover s.reached
   unfolding judged
   judged-ready s = go number refl
@@ -167,7 +185,12 @@ module _ (y : Call) (words dock : ℕ) (t : Words) where
       go : (m : ℕ) → number ≡ m → judged (seventeen_in y t) words dock t ≡ Ok s → Passed s.leftover s.reached
       go zero e q =
           let a = shared-passed (seventeen_in y t) words dock t e in
-          record { found = (checked-sound t s.leftover s.reached).0 (ready-sound (checked t) s (rw (e, judged) at q)); collection = a.collection; dock-ok = a.dock-ok; long = a.long }
+          record {
+            found = (checked-sound t s.leftover s.reached).0 (ready-sound (checked t) s (rw (e, judged) at q));
+            collection = a.collection;
+            dock-ok = a.dock-ok;
+            long = a.long;
+          }
       go (suc m) e q =
           let r : refused_with (suc m) ≡ Ok s = rw (e, judged) at q in
           let z : ◌≡◌ {A = ℕ} 0 1 = cc in absurd (omega arith)
@@ -186,12 +209,14 @@ module _ (y : Call) (words dock : ℕ) (t : Words) where
 
     -- a call that one of its own tests refuses: 6 to 9 go by the own map of t
     pub ready-number : refusal y words dock t ≡ first_number (map_tests y (eleven_in y (repaired t)) (ten_in y (repaired t)) (own_map y t))
-    ready-number = number-on-sound y words dock t p.found.is-sound p.collection ∙ rw (le-ltb 1 dock p.dock-ok, le-ltb words (words_for dock) p.long)
+    ready-number = number-on-sound y words dock t p.found.is-sound p.collection
+        ∙ rw (le-ltb 1 dock p.dock-ok, le-ltb words (words_for dock) p.long)
 
 -- ---- whether the map of a tree has a key
 
 -- the leaf n for k, which is x, holds the slot that the map has for k
-module _ (t : Words) (o k n : ℕ) (x : Node) (h : rust.Option ℕ) (s : sound_view (view_from t o) ≡ true) (e : n ≡ standing_in (view_from t o) 0 k) (q : x ≡ node t n)
+module _ (t : Words) (o k n : ℕ) (x : Node) (h : rust.Option ℕ) (s : sound_view (view_from t o) ≡ true)
+    (e : n ≡ standing_in (view_from t o) 0 k) (q : x ≡ node t n)
     (f : h ≡ held_by (first_with k (shown_from x.left x.slots 0))) where
   abbrev v : View
   v = view_from t o
@@ -203,7 +228,8 @@ module _ (t : Words) (o k n : ℕ) (x : Node) (h : rust.Option ℕ) (s : sound_v
       let c = leaf-covers v k o in
       let d : height v - 0 ≡ height v = omega arith in
       let l : n ≡ leaf_for v k = e ∙ ap (λ (i : ℕ). get_or (path v k) i 0) d ∙ path-leaf v k o in
-      f ∙ ap (λ (y : Node). held_by (first_with k (shown_from y.left y.slots 0))) q ∙ ap (λ (m : ℕ). held_by (first_with k (node_view t m).shown)) l
+      f ∙ ap (λ (y : Node). held_by (first_with k (shown_from y.left y.slots 0))) q
+      ∙ ap (λ (m : ℕ). held_by (first_with k (node_view t m).shown)) l
       ∙ ap held_by (sym (range-first v k (leaf_for v k) o (leaf-mem v k o) c.fence c.inside))
 
   pub key-held : is_some h ≡ has_key k (mapping (view_from t o))

@@ -1,9 +1,6 @@
 -- The repair of a sound table, by what the check said is left: its stores, and what the shifts need of the nodes.
-use mathlib.Core.Path.{◌≡◌, ap, ◌∙◌}
-use mathlib.Core.Bool.{Bool, true, false}
-use mathlib.Core.List.{List, [], ◌++◌}
+use Rattle.std.proofs.Common.{◌≡◌, ℕ, Bool, true, false, List, [], ◌++◌, ap, ◌∙◌}
 use mathlib.Core.Option.{some}
-use Prim.Native.Nat.{ℕ}
 use Rattle.model.specs.Table.{Words, has_node}
 use Rattle.model.specs.SoundTest.{Leftover, nothing, hidden_in, missing_in, both_in, leftover_all, sound}
 use Rattle.model.specs.Orders.{Store, apply}
@@ -62,7 +59,8 @@ module _ (t : Words) (l : said.Leftover) (s : sound t ≡ true) (e : leftover_al
     parent-there = both-there t s p a both
 
 -- both: the second part, on what the first part left
-module _ (w : Writer) (l : said.Leftover) (s : sound w.table.now ≡ true) (e : leftover_all w.table.now ≡ some (meant l)) (p a : ℕ) (q : l ≡ BothIn p a) {v : Writer}
+module _ (w : Writer) (l : said.Leftover) (s : sound w.table.now ≡ true) (e : leftover_all w.table.now ≡ some (meant l)) (p a : ℕ)
+    (q : l ≡ BothIn p a) {v : Writer}
     (g : Makes (close_at w.table.now p) w v) where
   abbrev attaching : Words → List Store
   attaching u = attach u p a

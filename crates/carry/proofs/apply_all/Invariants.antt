@@ -1,7 +1,6 @@
 -- The orders of the words left lie in the table, and carried out now they leave what all of them leave.
-use Rattle.std.proofs.Common.{◌≡◌, length}
+use Rattle.std.proofs.Common.{◌≡◌, true, length}
 use Rattle.std.specs.Slice.Iter.{chunks_exact_rest, chunks_exact_size}
-use mathlib.Core.Bool.{true}
 use Rattle.model.specs.Orders.{decode, all_inside, carry}
 use Rattle.carry.proofs.apply_all.Given as goal
 

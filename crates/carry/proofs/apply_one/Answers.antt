@@ -1,6 +1,5 @@
 -- `carry::apply_one` meets its contract.
-use mathlib.Core.Logic.{inl, inr}
-use Rattle.std.proofs.Common.{refl}
+use Rattle.std.proofs.Common.{refl, inl, inr}
 use Rattle.model.specs.Orders.{carry}
 use Rattle.carry.proofs.apply_one.Goals as goal
 

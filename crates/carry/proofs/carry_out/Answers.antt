@@ -1,9 +1,8 @@
 -- `carry::carry_out` meets its contract, by the tests in their order.
-use mathlib.Core.Path.{sym, ◌∙◌}
+use Rattle.std.proofs.Common.{sym, ◌∙◌, rules}
 use Rattle.list_laws.proofs.Tools.{handed-on}
 use Rattle.model.proofs.Numbers.{passed-zero, failed-some, failed-with}
 use Rattle.carry.proofs.Answers.{no-header, too-many, outside, done}
-use borrow.Author.Rules.{rules}
 use Rattle.carry.proofs.carry_out.Goals as goal
 
 pub returns-in_err-header : goal.returns-in_err-header

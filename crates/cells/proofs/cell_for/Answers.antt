@@ -1,7 +1,6 @@
 -- `cells::cell_for` meets its contract.
-use mathlib.Core.Path.{refl, ◌∙◌}
+use Rattle.std.proofs.Common.{refl, ◌∙◌, arith}
 use native.Mathlib.Nat.{sub-zero, sub-add-eq}
-use native.Mathlib.Omega.{arith}
 use Rattle.cells.proofs.Walking.{seek-start, seek-here, seek-free, seek-on, seek-out}
 use Rattle.cells.proofs.cell_for.Goals as goal
 use Rattle.cells.proofs.cell_for.Goals.{then-held-number-via-then-held-number, then-held-number-via-else-held-number+then-held-eq0}
@@ -23,8 +22,11 @@ returns-then-held-number c = record {
 
 pub loop-preserved : goal.loop-preserved
 loop-preserved c = let l = c.loop in
-    let e = c.next_cell-at.ensures in
-    (refl, e.upper_bound, rw sub-add-eq (seek-on _ _ _ _ _ (omega arith) c.if-held-number.false c.if-held-eq0.false refl _ e.value ∙ l.invariant.2))
+    let e = c.next_cell-at.ensures in (
+      refl,
+      e.upper_bound,
+      rw sub-add-eq (seek-on _ _ _ _ _ (omega arith) c.if-held-number.false c.if-held-eq0.false refl _ e.value ∙ l.invariant.2),
+    )
 
 pub returns-clause-none : goal.returns-clause-none
 returns-clause-none c = seek-out _ _ _ _ _ (omega arith) refl ∙ c.loop.invariant.2

@@ -1,6 +1,6 @@
 -- `clear::are_new` meets its contract.
-use mathlib.Core.Bool.{true, false, false≢true}
-use mathlib.Core.Path.{ap, sym, ◌∙◌}
+use Rattle.std.proofs.Common.{true, false, sym, ap, ◌∙◌}
+use mathlib.Core.Bool.{false≢true}
 use Rattle.std.specs.Prelude.{is_ok}
 use Rattle.numbers.specs.Cells.{Outcome}
 use Rattle.clear.proofs.Entering.{holds-none, new-not, new-all}

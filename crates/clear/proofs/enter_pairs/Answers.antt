@@ -1,7 +1,6 @@
 -- `clear::enter_pairs` meets its contract.
-use mathlib.Core.Path.{refl, ◌∙◌}
+use Rattle.std.proofs.Common.{refl, ◌∙◌, arith}
 use mathlib.Core.Bool.{false≢true}
-use native.Mathlib.Omega.{arith}
 use Rattle.list_laws.proofs.Tools.{handed-on}
 use Rattle.clear.proofs.Entering.{holds-start, holds-pair, holds-all, down-end, down-next, down-ends}
 use Rattle.clear.proofs.enter_pairs.Goals as goal
@@ -13,7 +12,8 @@ pub returns-in_err-enter : goal.returns-in_err-enter
 returns-in_err-enter c =
     rw (handed-on c.from_residual.ensures.1)
     (record {
-      value = down-ends _ _ _ _ c.loop-i-test.true _ _ _ c.recording-number.ensures c.enter.ensures _ c.in_err-enter.was ∙ c.loop-i.invariant.2;
+      value = down-ends _ _ _ _ c.loop-i-test.true _ _ _ c.recording-number.ensures c.enter.ensures _
+          c.in_err-enter.was ∙ c.loop-i.invariant.2;
       holds_2 = λ z. absurd (false≢true z);
     })
 

@@ -1,6 +1,5 @@
 -- The cells hold the recordings of the pairs from i on.
-use Prim.Native.Nat.{◌-◌, ◌≤◌}
-use mathlib.Core.Path.{◌≡◌}
+use Rattle.std.proofs.Common.{◌≡◌, ◌-◌, ◌≤◌}
 use Rattle.clear.specs.New.{recordings_of, Holds, entered_down}
 use Rattle.clear.proofs.enter_pairs.Given as goal
 

@@ -1,6 +1,5 @@
 -- `clear::is_off` meets its contract.
-use mathlib.Core.Path.{◌∙◌}
-use native.Mathlib.Omega.{arith}
+use Rattle.std.proofs.Common.{◌∙◌, arith}
 use native.Mathlib.Nat.{sub-add-eq}
 use Rattle.clear.proofs.Looking.{off-start, off-here, off-free, off-more, off-end}
 use Rattle.clear.proofs.is_off.Goals as goal
@@ -15,8 +14,11 @@ pub returns-then-held-eq0 : goal.returns-then-held-eq0
 returns-then-held-eq0 c = off-free _ _ _ _ (omega arith) c.if-held-number.false c.if-held-eq0.true ∙ c.loop.invariant.1
 
 pub loop-preserved : goal.loop-preserved
-loop-preserved c = let e = c.next_cell-at.ensures in
-    (e.upper_bound, rw sub-add-eq (off-more _ _ _ _ (omega arith) c.if-held-number.false c.if-held-eq0.false _ e.value ∙ c.loop.invariant.1))
+loop-preserved c = let e = c.next_cell-at.ensures in (
+  e.upper_bound,
+  rw sub-add-eq
+      (off-more _ _ _ _ (omega arith) c.if-held-number.false c.if-held-eq0.false _ e.value ∙ c.loop.invariant.1),
+)
 
 pub returns : goal.returns
 returns c = off-end _ _ _ _ (omega arith) ∙ c.loop.invariant.1

@@ -1,6 +1,5 @@
 -- What the tries that are left come to is what all of them come to.
-use Prim.Native.Nat.{◌<◌, ◌-◌}
-use mathlib.Core.Path.{◌≡◌}
+use Rattle.std.proofs.Common.{◌≡◌, ◌-◌, ◌<◌}
 use Rattle.numbers.specs.Cells.{CELLS, TRIES}
 use Rattle.clear.specs.New.{off_from, off}
 use Rattle.clear.proofs.is_off.Given as goal

@@ -22,6 +22,7 @@ unfolding ways_from
 returns c = let a = c.args in let w = c.ways_of-w.result in
     let some : 1 ≤ w.count = some-way _ _ w c.ways_of-w.ensures in
     let high : w.count ≤ length w.pointers = omega arith in
-    all_from_yields_List (λ p. off a.cells.now (recording_of p)) _ _ c.all.result c.all.ensures.ran (YieldsList-from_slice _ (cc)) (λ x b q k. search (rules, tests))
+    all_from_yields_List (λ p. off a.cells.now (recording_of p)) _ _ c.all.result c.all.ensures.ran (YieldsList-from_slice _ (cc))
+    (λ x b q k. search (rules, tests))
     ∙ listed-ways a.cells.now w.keys w.pointers 1 (w.count - 1) (omega arith)
     ∙ ap (all (off_pair a.cells.now)) (kept-ways a.table.now (root a.table.now) a.leaf w c.ways_of-w.ensures)

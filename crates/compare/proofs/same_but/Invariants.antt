@@ -7,7 +7,8 @@ use Rattle.compare.proofs.same_but.Given as goal
 
 abbrev pub invariant-loop-a : goal.invariant-loop-a
 invariant-loop-a l =
-    Comparing (view l.image) (view l.table) l.key (same_but l.key (all_pairs (view_from l.image l.top)) (all_pairs (view_from l.table l.root))) l.a l.b
+    Comparing (view l.image) (view l.table) l.key
+    (same_but l.key (all_pairs (view_from l.image l.top)) (all_pairs (view_from l.table l.root))) l.a l.b
 
 abbrev pub decreases-loop-a : goal.decreases-loop-a
 decreases-loop-a l = distance l.a

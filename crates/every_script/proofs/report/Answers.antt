@@ -13,4 +13,5 @@ put_line-requires-2 c = room-after 21 21 c.put_line.ensures (line-most c.run_all
 pub returns : goal.returns
 returns c =
     let m = c.run_all-met in
-    two-lines m.result.tables m.result.bad m.ensures.tables_value m.ensures.bad_value c.requires.empty c.requires.room c.put_line.ensures c.put_line-2.ensures
+    two-lines m.result.tables m.result.bad m.ensures.tables_value m.ensures.bad_value c.requires.empty c.requires.room
+    c.put_line.ensures c.put_line-2.ensures

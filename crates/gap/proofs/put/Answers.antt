@@ -1,7 +1,5 @@
 -- `gap::put` meets its contract.
-use Prim.Native.Nat.{◌*◌}
-use native.Mathlib.Omega.{arith}
-use lib.ListN.{length-set}
+use Rattle.std.proofs.Common.{◌*◌, arith, length-set}
 use Rattle.gap.proofs.Around.{stored-parts}
 use Rattle.gap.proofs.put.Goals as goal
 

@@ -1,7 +1,5 @@
 -- `gather::gather_node` meets its contract.
-use mathlib.Core.Path.{◌≡◌}
-use Prim.Native.Nat.{◌≤◌}
-use lib.ListN.{length}
+use Rattle.std.proofs.Common.{◌≡◌, ◌≤◌, length}
 use Rattle.model.specs.Table.{node}
 use Rattle.model.specs.Salvage.{gather_slots, collected}
 use Rattle.gather.proofs.Leaves.{Collecting}

@@ -13,8 +13,13 @@ gather_node-p-requires c = let l = c.loop-n.invariant in
 
 pub loop-n-preserved : goal.loop-n-preserved
 loop-n-preserved c = let l = c.loop-n.invariant in
-    let t = c.loop-n-test.true in
-    (l.0, l.1, walking-step _ _ _ _ _ l.0 l.1 _ _ _ _ l.2 t _ _ _ c.gather_node-p.ensures.result_after c.gather_node-p.ensures.standing.0 c.gather_node-p.ensures.standing.1 (search rules) (search rules))
+    let t = c.loop-n-test.true in (
+      l.0,
+      l.1,
+      walking-step _ _ _ _ _ l.0 l.1 _ _ _ _ l.2 t _ _ _ c.gather_node-p.ensures.result_after c.gather_node-p.ensures.standing.0
+          c.gather_node-p.ensures.standing.1 (search rules) (search rules),
+    )
 
 pub returns : goal.returns
-returns c = let l = c.loop-n.invariant in let both = walking-end _ _ _ _ _ l.0 l.1 _ _ _ _ l.2 c.loop-n-test.false in record { result_after = both.0; standing = both.1 }
+returns c = let l = c.loop-n.invariant in let both =
+    walking-end _ _ _ _ _ l.0 l.1 _ _ _ _ l.2 c.loop-n-test.false in record { result_after = both.0; standing = both.1 }

@@ -1,8 +1,5 @@
 -- `gather::is_kept` meets its contract.
-use mathlib.Core.Path.{sym, ◌∙◌}
-use Prim.Native.Nat.{◌*◌}
-use native.Mathlib.Omega.{arith}
-use lib.Seq.{length-take-le}
+use Rattle.std.proofs.Common.{◌*◌, sym, ◌∙◌, arith, length-take-le}
 use Rattle.gather.proofs.Pairs.{kept-low, kept-high}
 use Rattle.gather.proofs.is_kept.Goals as goal
 
@@ -12,9 +9,11 @@ slice_bounds-has_recording-end c = let a = c.args in
 
 pub returns-then-has_recording : goal.returns-then-has_recording
 returns-then-has_recording c = let a = c.args in
-    c.if-has_recording.true ∙ kept-low a.words.now a.bound a.t a.recording c.requires c.has_recording.result c.has_recording.ensures c.if-has_recording.true
+    c.if-has_recording.true
+    ∙ kept-low a.words.now a.bound a.t a.recording c.requires c.has_recording.result c.has_recording.ensures c.if-has_recording.true
 
 pub returns-else-has_recording : goal.returns-else-has_recording
 returns-else-has_recording c = let a = c.args in
     let y = c.has_recording-else-has_recording in
-    kept-high a.words.now a.bound a.t a.recording c.requires c.has_recording.result y.result c.has_recording.ensures c.if-has_recording.false y.ensures
+    kept-high a.words.now a.bound a.t a.recording c.requires c.has_recording.result y.result c.has_recording.ensures
+    c.if-has_recording.false y.ensures

@@ -9,7 +9,12 @@ pub grow-requires : goal.grow-requires
 grow-requires c =
     let h = c.requires.enterable in
     record {
-      growable = record { collection = h.collection; is-settled = h.is-settled; enough = h.enters.enough; whole-is = ap (λ (u : Run). u.root) h.run-is };
+      growable = record {
+        collection = h.collection;
+        is-settled = h.is-settled;
+        enough = h.enters.enough;
+        whole-is = ap (λ (u : Run). u.root) h.run-is;
+      };
       room = root-room h;
       marked = c.requires.marked;
     }

@@ -32,13 +32,19 @@ new_root-requires c =
     let e = rw c.table-table.ensures at c.root_of-root.ensures in
     let w = c.if-run.true in
     let n = rw c.table-table.ensures at c.fresh-fresh.ensures.value in
-    record { word_bound = word-low h; r_value = root-there h e w n; word_bound_2 = root-low h; room = room-as _ _ _ (root-stores h e w n) q.room }
+    record {
+      word_bound = word-low h;
+      r_value = root-there h e w n;
+      word_bound_2 = root-low h;
+      room = room-as _ _ _ (root-stores h e w n) q.room;
+    }
 
 pub returns-then-run : goal.returns-then-run
 returns-then-run c =
     let q = c.requires in
     let h = q.growable in
     record {
-      stores = stored-as (root-stores h (rw c.table-table.ensures at c.root_of-root.ensures) c.if-run.true (rw c.table-table.ensures at c.fresh-fresh.ensures.value)) c.new_root.ensures;
+      stores = stored-as (root-stores h (rw c.table-table.ensures at c.root_of-root.ensures) c.if-run.true
+          (rw c.table-table.ensures at c.fresh-fresh.ensures.value)) c.new_root.ensures;
       marked_2 = rw c.table-table.ensures at c.fresh-fresh.ensures.marked_2;
     }

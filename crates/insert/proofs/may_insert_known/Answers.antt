@@ -15,25 +15,29 @@ has_key-requires c = root-sound _ _ _ c.root_of-root.ensures c.requires.table_va
 pub returns-then-not-recording_ok : goal.returns-then-not-recording_ok
 returns-then-not-recording_ok c =
     let a = c.args in
-    fails BadRecording (bad-recording a.x.collection a.table.now a.x.key a.x.recording a.x.access a.run c.root_of-root.ensures c.recording_ok.ensures
+    fails BadRecording (bad-recording a.x.collection a.table.now a.x.key a.x.recording a.x.access a.run
+    c.root_of-root.ensures c.recording_ok.ensures
     c.if-not-recording_ok.true)
 
 pub returns-then-not-class_ok : goal.returns-then-not-class_ok
 returns-then-not-class_ok c =
     let a = c.args in
-    fails BadClass (bad-class a.x.collection a.table.now a.x.key a.x.recording a.x.access a.run c.root_of-root.ensures c.recording_ok.ensures
+    fails BadClass (bad-class a.x.collection a.table.now a.x.key a.x.recording a.x.access a.run
+    c.root_of-root.ensures c.recording_ok.ensures
     c.if-not-recording_ok.false c.class_ok.ensures c.if-not-class_ok.true)
 
 pub returns-then-has_key : goal.returns-then-has_key
 returns-then-has_key c =
     let a = c.args in
-    fails KeyPresent (key-present a.x.collection a.table.now a.x.key a.x.recording a.x.access a.run c.root_of-root.ensures c.recording_ok.ensures
+    fails KeyPresent (key-present a.x.collection a.table.now a.x.key a.x.recording a.x.access a.run
+    c.root_of-root.ensures c.recording_ok.ensures
     c.if-not-recording_ok.false c.class_ok.ensures c.if-not-class_ok.false c.has_key.ensures c.if-has_key.true)
 
 pub returns-then-known : goal.returns-then-known
 returns-then-known c =
     let a = c.args in
-    fails RecordingPresent (recording-present a.x.collection a.table.now a.x.key a.x.recording a.x.access a.run c.root_of-root.ensures c.recording_ok.ensures
+    fails RecordingPresent
+    (recording-present a.x.collection a.table.now a.x.key a.x.recording a.x.access a.run c.root_of-root.ensures c.recording_ok.ensures
     c.if-not-recording_ok.false c.class_ok.ensures c.if-not-class_ok.false c.has_key.ensures c.if-has_key.false c.requires.known_value
     c.if-known.true)
 

@@ -34,14 +34,17 @@ split-requires-clause-a_value_2 c =
 pub split-requires-clause-b_value : goal.split-requires-clause-b_value
 split-requires-clause-b_value c =
     let t = c.table-table.ensures in
-    upper-there c.requires.splittable (rw t at c.root_of-root.ensures) (rw t at c.standing-a.ensures) (rw t at c.fresh-b.ensures.value) (rw t at c.standing-parent.ensures)
+    upper-there c.requires.splittable (rw t at c.root_of-root.ensures) (rw t at c.standing-a.ensures) (rw t at c.fresh-b.ensures.value)
+    (rw t at c.standing-parent.ensures)
 
 pub split-requires-clause-p_value : goal.split-requires-clause-p_value
 split-requires-clause-p_value c =
     let t = c.table-table.ensures in
-    (parent-plain c.requires.splittable (rw t at c.root_of-root.ensures) (rw t at c.standing-a.ensures) (rw t at c.fresh-b.ensures.value) (rw t at c.standing-parent.ensures)).there
+    (parent-plain c.requires.splittable (rw t at c.root_of-root.ensures) (rw t at c.standing-a.ensures) (rw t at c.fresh-b.ensures.value)
+    (rw t at c.standing-parent.ensures)).there
 
 pub split-requires-clause-p_value_2 : goal.split-requires-clause-p_value_2
 split-requires-clause-p_value_2 c =
     let t = c.table-table.ensures in
-    (parent-plain c.requires.splittable (rw t at c.root_of-root.ensures) (rw t at c.standing-a.ensures) (rw t at c.fresh-b.ensures.value) (rw t at c.standing-parent.ensures)).plain
+    (parent-plain c.requires.splittable (rw t at c.root_of-root.ensures) (rw t at c.standing-a.ensures) (rw t at c.fresh-b.ensures.value)
+    (rw t at c.standing-parent.ensures)).plain

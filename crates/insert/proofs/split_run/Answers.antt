@@ -1,4 +1,5 @@
--- `insert::split_run` meets its contract. The loop's invariant: the lowest l nodes of the run are left, ready to be split, and what is marked is
+-- `insert::split_run` meets its contract. The loop's invariant: the lowest l nodes of the run are left, ready to be split, and what is
+-- marked is
 -- reached.
 use native.Mathlib.Omega.{arith}
 use Rattle.orders.proofs.Rest.{rest-start}
@@ -11,7 +12,11 @@ loop-l-init c = record { marked = c.requires.marked; ready = c.requires.ready; l
 pub split_at-requires : goal.split_at-requires
 split_at-requires c =
     let l = c.loop-l in
-    record { splittable = next-splittable _ _ _ l.l (omega arith) l.invariant.ready; room = next-room _ _ l.l (omega arith) l.invariant.left; marked = l.invariant.marked }
+    record {
+      splittable = next-splittable _ _ _ l.l (omega arith) l.invariant.ready;
+      room = next-room _ _ l.l (omega arith) l.invariant.left;
+      marked = l.invariant.marked;
+    }
 
 pub loop-l-preserved : goal.loop-l-preserved
 loop-l-preserved c =

@@ -1,4 +1,5 @@
--- `insert::split_run` meets its contract. The loop's invariant: the lowest l nodes of the run are left, ready to be split, and what is marked is
+-- `insert::split_run` meets its contract. The loop's invariant: the lowest l nodes of the run are left, ready to be split, and what is
+-- marked is
 -- reached.
 use Rattle.model.specs.Writes.{splits}
 use Rattle.two_laws.specs.Parts.{Ready}
@@ -11,5 +12,6 @@ abbrev pub invariant-loop-l : goal.invariant-loop-l
 invariant-loop-l l = record {
   marked : Marked l.writer.table.now l.marks;
   ready : Ready l.l l.x.collection l.writer.table.now l.x.key;
-  left : Rest (splits l.x.collection l.l l.writer.table.now l.x.key) l.initial.writer l.writer (stored_all (splits l.x.collection l.count l.initial.writer.table.now l.x.key) (of l.initial.writer));
+  left : Rest (splits l.x.collection l.l l.writer.table.now l.x.key) l.initial.writer l.writer
+      (stored_all (splits l.x.collection l.count l.initial.writer.table.now l.x.key) (of l.initial.writer));
 }

@@ -17,7 +17,12 @@ pub loop-width-init : goal.loop-width-init
 loop-width-init c = let i = c.requires.i_in_bounds in (c.root_of-root.ensures, omega arith, widths-start _ _ _ _)
 
 pub are_new-requires : goal.are_new-requires
-are_new-requires c = let l = c.loop-width in let e = l.invariant in record { root_value = root-sound _ _ _ e.0 c.requires.table_value c.requires.table_value_2; from_le_to = omega arith; to_in_bounds = omega (arith, e.1) }
+are_new-requires c = let l = c.loop-width in let e =
+    l.invariant in record {
+      root_value = root-sound _ _ _ e.0 c.requires.table_value c.requires.table_value_2;
+      from_le_to = omega arith;
+      to_in_bounds = omega (arith, e.1);
+    }
 
 pub returns-then-are_new : goal.returns-then-are_new
 returns-then-are_new c = let a = c.args in record {
@@ -31,4 +36,8 @@ loop-width-preserved c = let l = c.loop-width.invariant in
     (l.0, omega (arith, l.1), widths-half l.2 c.loop-width-test.true _ c.are_new.ensures.value c.if-are_new.false)
 
 pub returns : goal.returns
-returns c = record { value = end-none _ _ _ _ _ c.if-i-end.false _ c.loop-width.invariant.0 (widths-none c.loop-width.invariant.2 c.loop-width-test.false); new_2 = none-new _ _ _ _ (omega arith) }
+returns c = record {
+  value = end-none _ _ _ _ _ c.if-i-end.false _ c.loop-width.invariant.0
+      (widths-none c.loop-width.invariant.2 c.loop-width-test.false);
+  new_2 = none-new _ _ _ _ (omega arith);
+}

@@ -1,8 +1,6 @@
 -- `insert_many::take_all` meets its contract. The loop's invariant: from here the batch comes to what it comes to from the start, and the
 -- recordings of the pairs before the end are new; what is marked is reached.
-use mathlib.Core.Path.{refl, ◌∙◌}
-use native.Mathlib.Numerals.{add-one}
-use native.Mathlib.Omega.{arith}
+use Rattle.std.proofs.Common.{refl, ◌∙◌, add-one, arith}
 use Rattle.reach.proofs.Marking.{none-taken}
 use Rattle.clear.proofs.Fresh.{none-new, later-new}
 use Rattle.insert_many.proofs.Going.{ahead-start, ahead-all, new-next}
@@ -19,14 +17,23 @@ loop-i-init c = let q = c.requires in record {
 }
 
 pub new_end-end-requires : goal.new_end-end-requires
-new_end-end-requires c = let h = c.loop-i.invariant in record { table_value = h.fit.found.is-sound; table_value_2 = h.fit.collection; i_in_bounds = omega arith; new = h.new }
+new_end-end-requires c = let h =
+    c.loop-i.invariant in record
+    { table_value = h.fit.found.is-sound; table_value_2 = h.fit.collection; i_in_bounds = omega arith; new = h.new }
 
 pub is_known-known-requires : goal.is_known-known-requires
-is_known-known-requires c = let h = c.loop-i.invariant in record { table_value = h.fit.found.is-sound; table_value_2 = h.fit.collection; i_in_bounds = omega arith; new = c.new_end-end.ensures.new_2 }
+is_known-known-requires c = let h =
+    c.loop-i.invariant in record
+    { table_value = h.fit.found.is-sound; table_value_2 = h.fit.collection; i_in_bounds = omega arith; new = c.new_end-end.ensures.new_2 }
 
 pub take_next-requires : goal.take_next-requires
 take_next-requires c = let h = c.loop-i.invariant in
-    record { fit = h.fit; taken_in_bounds = omega (arith, h.taken-are); known_value = rw h.taken-are c.is_known-known.ensures; marked = h.marked }
+    record {
+      fit = h.fit;
+      taken_in_bounds = omega (arith, h.taken-are);
+      known_value = rw h.taken-are c.is_known-known.ensures;
+      marked = h.marked;
+    }
 
 pub returns-in-Err : goal.returns-in-Err
 returns-in-Err c = rw c.answer_of.ensures (rw c.in-Err.is at c.take_next.ensures.table_after) ∙ c.loop-i.invariant.same
@@ -42,4 +49,5 @@ loop-i-preserved c = let h = c.loop-i.invariant in let e = c.take_next.ensures i
 }
 
 pub returns : goal.returns
-returns c = let h = c.loop-i.invariant in rw c.answer_of-2.ensures (ahead-all _ _ _ _ _ _ (omega (arith, h.taken-are)) h.fit.inside) ∙ h.same
+returns c = let h = c.loop-i.invariant in rw c.answer_of-2.ensures
+    (ahead-all _ _ _ _ _ _ (omega (arith, h.taken-are)) h.fit.inside) ∙ h.same

@@ -5,7 +5,8 @@ use Rattle.insert_many.proofs.take_one.Goals as goal
 
 pub returns-then-list-words_for : goal.returns-then-list-words_for
 returns-then-list-words_for c = let x = c.args.x in let q = c.requires in
-    let p = short x.collection x.key x.recording x.access c.args.dock c.args.table.now c.args.list.now q.found.is-sound q.table_value q.dock_bound _ c.words_for.ensures c.if-list-words_for.true in
+    let p = short x.collection x.key x.recording x.access c.args.dock c.args.table.now c.args.list.now q.found.is-sound q.table_value
+    q.dock_bound _ c.words_for.ensures c.if-list-words_for.true in
     record { result_value = p.0; table_after = p.1.0; list_after = p.1.1.0; counts = tt; marked_2 = q.marked }
 
 pub insert_known-requires : goal.insert_known-requires

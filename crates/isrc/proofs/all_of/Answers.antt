@@ -8,5 +8,6 @@ use Rattle.isrc.proofs.all_of.Goals as goal
 
 pub returns : goal.returns
 returns c = let a = c.args in
-    all_from_yields_List (test a.kind) _ _ c.all.result c.all.ensures.ran (YieldsList-from_slice a.text.now (cc)) (λ x b q k. search (rules, tests))
+    all_from_yields_List (test a.kind) _ _ c.all.result c.all.ensures.ran (YieldsList-from_slice a.text.now (cc))
+    (λ x b q k. search (rules, tests))
     ∙ listed-all (test a.kind) a.text.now

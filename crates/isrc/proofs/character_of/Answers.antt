@@ -1,6 +1,5 @@
 -- `isrc::character_of` meets its contract.
-use mathlib.Core.Path.{sym}
-use native.Mathlib.Omega.{arith}
+use Rattle.std.proofs.Common.{sym, arith}
 use Rattle.isrc.proofs.Characters.{character-small, character-large}
 use Rattle.isrc.proofs.character_of.Goals as goal
 

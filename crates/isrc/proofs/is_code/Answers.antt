@@ -1,7 +1,5 @@
 -- `isrc::is_code` meets its contract.
-use Rattle.std.proofs.Common.{◌≡◌, true, false, ap, refl, ◌∙◌, ◌&&◌, List, ℕ, Bool, length, take, drop}
-use borrow.Author.Tests.{eq-eqb, ne_eqb}
-use lib.Dec.{eqb}
+use Rattle.std.proofs.Common.{◌≡◌, ℕ, Bool, true, false, ◌&&◌, eqb, List, length, take, drop, refl, ap, ◌∙◌, eq-eqb, ne_eqb}
 use Rattle.model.specs.Codes.{is_code}
 use Rattle.model.specs.Lists.{all}
 use Rattle.isrc.specs.Kinds.{test}
@@ -21,7 +19,9 @@ parts : (text : List ℕ) (v w x : Bool)
     → v ≡ (eqb (length text) 12 && all (test Letter) (take 2 text)) → w ≡ (v && all (test LetterOrDigit) (take 3 (drop 2 text)))
     → x ≡ (w && all (test Digit) (drop 5 text)) → x ≡ is_code text
 unfolding is_code test
-parts text v w x e f g = rw (g, f, e) (grouped (eqb (length text) 12) (all (test Letter) (take 2 text)) (all (test LetterOrDigit) (take 3 (drop 2 text))) (all (test Digit) (drop 5 text)))
+parts text v w x e f g =
+    rw (g, f, e) (grouped (eqb (length text) 12) (all (test Letter) (take 2 text)) (all (test LetterOrDigit) (take 3 (drop 2 text)))
+    (all (test Digit) (drop 5 text)))
 
 -- the answer, where the tests but the last came together
 whole : (c : Joined-all_of) (x : Bool) → x ≡ (c.if-all_of.value && all (test Digit) (drop 5 c.args.text.now)) → x ≡ is_code c.args.text.now

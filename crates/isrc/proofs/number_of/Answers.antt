@@ -1,11 +1,6 @@
 -- `isrc::number_of` meets its contract.
-use mathlib.Core.Path.{refl, sym, ap, ◌∙◌}
-use mathlib.Core.List.{List, map}
-use Prim.Native.Nat.{ℕ, ◌+◌, ◌*◌, ◌<◌, ◌^◌}
+use Rattle.std.proofs.Common.{ℕ, ◌+◌, ◌*◌, ◌^◌, ◌<◌, List, map, get_or, sym, refl, ap, ◌∙◌, arith, lit<, drop_of_length-le}
 use native.Mathlib.Nat.{pow-le-pow_right}
-use native.Mathlib.Omega.{arith}
-use lib.Dec.{lit<}
-use lib.ListN.{get_or, drop_of_length-le}
 use Rattle.model.specs.Codes.{is_letter_or_digit, value, number, read_on}
 use Rattle.isrc.proofs.Characters.{value-bound, every-get_d, read_on-at}
 use Rattle.isrc.proofs.Digits.{step-bound}

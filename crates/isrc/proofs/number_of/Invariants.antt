@@ -1,7 +1,5 @@
 -- The loop's invariant: reading on gives the whole's number, and i characters read as less than 36 ^ i.
-use Rattle.std.proofs.Common.{◌≡◌, map, ◌<◌}
-use Prim.Native.Nat.{◌^◌}
-use lib.ListN.{drop}
+use Rattle.std.proofs.Common.{◌≡◌, ◌^◌, ◌<◌, map, drop}
 use Rattle.model.specs.Codes.{value, number, read_on}
 use Rattle.isrc.proofs.number_of.Given as goal
 

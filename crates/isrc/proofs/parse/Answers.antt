@@ -1,11 +1,5 @@
 -- `isrc::parse` meets its contract: past the test the text is a code, and the two results are its numbers.
-use borrow.Author.Rules.{rules}
-use mathlib.Core.Path.{◌≡◌, sym, ap, ap₂, ◌∙◌}
-use mathlib.Core.Bool.{true, false}
-use mathlib.Core.List.{List, map}
-use Prim.Native.Nat.{ℕ, ◌*◌, ◌+◌, ◌-◌, ◌<◌}
-use native.Mathlib.Omega.{arith}
-use lib.ListN.{length, take, drop}
+use Rattle.std.proofs.Common.{◌≡◌, ℕ, ◌+◌, ◌-◌, ◌*◌, ◌<◌, true, false, List, map, length, take, drop, sym, ap, ◌∙◌, ap₂, arith, rules}
 use Rattle.std.specs.Prelude.{Ok}
 use Rattle.model.specs.Codes.{value, number, key_of}
 use Rattle.model.specs.declared.Refusal.TheVariants.{NoCode}
@@ -18,7 +12,8 @@ use Rattle.isrc.proofs.parse.Goals as goal
 coded : (c : Else-not-is_code) → Code c.args.text.now
 coded c = let t : c.is_code.result ≡ true = search rules in code _ (sym c.is_code.ensures ∙ t)
 
-is_key : (text : List ℕ) (m n : ℕ) → m ≡ number 36 (map value (take 5 text)) → n ≡ number 10 (map value (take (length text - 5) (drop 5 text))) → m * 10000000 + n ≡ key_of text
+is_key : (text : List ℕ) (m n : ℕ) → m ≡ number 36 (map value (take 5 text)) → n
+    ≡ number 10 (map value (take (length text - 5) (drop 5 text))) → m * 10000000 + n ≡ key_of text
 unfolding key_of
 is_key text m n e f = ap₂ (λ (i j : ℕ). i * 10000000 + j) e (f ∙ ap (λ (l : List ℕ). number 10 (map value l)) (rest 5 text))
 
@@ -34,7 +29,8 @@ pub slice_bounds-number_of-end : goal.slice_bounds-number_of-end
 slice_bounds-number_of-end c = sym (length-front _ (coded (goal.at.slice_bounds-number_of-end c).Else-not-is_code))
 
 pub number_of-first-requires : goal.number_of-first-requires
-number_of-first-requires c = let k = coded (goal.at.number_of-first-requires c).Else-not-is_code in (k.front, omega (arith, length-front _ k), search rules)
+number_of-first-requires c = let k =
+    coded (goal.at.number_of-first-requires c).Else-not-is_code in (k.front, omega (arith, length-front _ k), search rules)
 
 pub slice_bounds-number_of-count : goal.slice_bounds-number_of-count
 slice_bounds-number_of-count c = omega (arith, (coded (goal.at.slice_bounds-number_of-count c).Else-not-is_code).long)

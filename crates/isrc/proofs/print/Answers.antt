@@ -1,9 +1,5 @@
 -- `isrc::print` meets its contract.
-use borrow.Author.Rules.{rules}
-use mathlib.Core.Path.{◌≡◌, sym, ap, ◌∙◌}
-use mathlib.Core.List.{List}
-use Prim.Native.Nat.{ℕ}
-use native.Mathlib.Omega.{arith}
+use Rattle.std.proofs.Common.{◌≡◌, ℕ, List, sym, ap, ◌∙◌, arith, rules}
 use Rattle.std.specs.Prelude.{Ok, Err}
 use Rattle.model.specs.declared.Refusal.{Refusal}
 use Rattle.model.specs.declared.Refusal.TheVariants.{NoCode}
@@ -15,10 +11,12 @@ use Rattle.isrc.proofs.Laws.{parse-spelling, prints-iff-read}
 use Rattle.isrc.proofs.print.Goals as goal
 
 -- what the key spells reads as the key, or not
-same : (k j : ℕ) (text : List ℕ) (p : Parsed) → text ≡ spelling k → p ≡ parse text → p ≡ Ok j → j ≡ k → ◌≡◌ {A = Printed} (Ok text) (print k)
+same : (k j : ℕ) (text : List ℕ) (p : Parsed) → text ≡ spelling k → p ≡ parse text → p ≡ Ok j → j ≡ k
+    → ◌≡◌ {A = Printed} (Ok text) (print k)
 same k j text p e q r s = rw (print-code k ((prints-iff-read k).1 (text, cc)), e)
 
-unless : (k : ℕ) (text : List ℕ) (p : Parsed) → text ≡ spelling k → p ≡ parse text → (p ≡ Ok k → ⊥) → ◌≡◌ {A = Printed} (Err NoCode) (print k)
+unless : (k : ℕ) (text : List ℕ) (p : Parsed) → text ≡ spelling k → p ≡ parse text → (p ≡ Ok k → ⊥)
+    → ◌≡◌ {A = Printed} (Err NoCode) (print k)
 unless k text p e q s = sym (print-other k (λ h. s (q ∙ ap parse e ∙ parse-spelling k h)) ∙ refused-by NoCode)
 
 one_key : (p : Parsed) (j k : ℕ) → p ≡ Ok j → p ≡ Ok k → j ≡ k

@@ -1,16 +1,14 @@
 -- `isrc::spelling_of` meets its contract.
-use mathlib.Core.Path.{◌≡◌, ap}
-use mathlib.Core.List.{List, ◌++◌, map, map-append, append-nil}
-use Prim.Native.Nat.{ℕ, ◌/◌}
-use native.Mathlib.Omega.{arith}
-use lib.ListN.{length, take, drop, replicate, length-append}
-use lib.Seq.{take_at, drop_at}
+use Rattle.std.proofs.Common.{◌≡◌, ℕ, ◌/◌, List, ◌++◌, map, length, take, drop, replicate, ap, append-nil, arith, length-append, take_at}
+use Rattle.std.proofs.Common.{drop_at}
+use mathlib.Core.List.{map-append}
 use Rattle.model.specs.Codes.{character, digits, spelling}
 use borrow.Rule.Slice.PartMut.{put_mid}
 use Rattle.isrc.proofs.spelling_of.Goals as goal
 
 -- xs in front of zeros, then ys in the place of the zeros
-joined : (xs ys : List ℕ) (key : ℕ) → length xs ≡ 5 → xs ≡ map character (digits 36 5 (key / 10000000)) → ys ≡ map character (digits 10 (length (take 7 (drop 5 (xs ++ replicate 7 0)))) key)
+joined : (xs ys : List ℕ) (key : ℕ) → length xs ≡ 5 → xs ≡ map character (digits 36 5 (key / 10000000)) → ys
+    ≡ map character (digits 10 (length (take 7 (drop 5 (xs ++ replicate 7 0)))) key)
     → put_mid 5 7 (xs ++ replicate 7 0) ys ≡ spelling key
 unfolding spelling
 joined xs ys key l e f =

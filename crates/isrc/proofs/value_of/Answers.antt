@@ -1,6 +1,5 @@
 -- `isrc::value_of` meets its contract: the character is a digit, or none.
-use mathlib.Core.Path.{sym}
-use native.Mathlib.Omega.{arith}
+use Rattle.std.proofs.Common.{sym, arith}
 use Rattle.isrc.proofs.Characters.{in-digits, in-letters}
 use Rattle.isrc.proofs.value_of.Goals as goal
 

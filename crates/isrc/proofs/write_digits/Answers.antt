@@ -1,16 +1,15 @@
 -- `isrc::write_digits` meets its contract.
-use mathlib.Core.Path.{◌≡◌, refl, ◌∙◌}
-use mathlib.Core.List.{List, ◌++◌, map, append_assoc, map-append}
-use Prim.Native.Nat.{ℕ, zero, suc, ◌/◌, ◌%◌, ◌≤◌, ◌<◌, ◌-◌}
-use native.Mathlib.Omega.{arith}
-use lib.ListN.{length, drop, set}
-use native.Mathlib.Numerals.{add-one}
+use Rattle.std.proofs.Common.{◌≡◌, ℕ, zero, suc, ◌-◌, ◌/◌, ◌%◌, ◌<◌, ◌≤◌, List, ◌++◌, map, length, drop, set, refl, ◌∙◌, append_assoc}
+use Rattle.std.proofs.Common.{add-one, arith}
+use mathlib.Core.List.{map-append}
 use Rattle.std.proofs.lemmas.List.{drop-set}
 use Rattle.model.specs.Codes.{character, digits}
 use Rattle.isrc.proofs.write_digits.Goals as goal
 
 -- the last of the i digits that are still to be written goes to place i - 1
-write : (base left i v : ℕ) (text : List ℕ) → 0 < i → i ≤ length text → v ≡ character (left % base) → map character (digits base (i - 1) (left / base)) ++ drop (i - 1) (set text (i - 1) v) ≡ map character (digits base i left) ++ drop i text
+write : (base left i v : ℕ) (text : List ℕ) → 0 < i → i ≤ length text → v ≡ character (left % base)
+    → map character (digits base (i - 1) (left / base)) ++ drop (i - 1) (set text (i - 1) v)
+    ≡ map character (digits base i left) ++ drop i text
 unfolding digits
 write base left zero v text h l e = absurd (omega arith)
 write base left (suc i) v text h l e =

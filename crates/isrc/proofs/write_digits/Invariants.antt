@@ -1,7 +1,5 @@
 -- The digits that are still to be written, then what is written, are the whole.
-use Rattle.std.proofs.Common.{◌≡◌, length}
-use mathlib.Core.List.{◌++◌, map}
-use lib.ListN.{drop}
+use Rattle.std.proofs.Common.{◌≡◌, ◌++◌, map, length, drop}
 use Rattle.model.specs.Codes.{character, digits}
 use Rattle.isrc.proofs.write_digits.Given as goal
 

@@ -1,5 +1,5 @@
 -- `judge::finish` meets its contract.
-use mathlib.Core.Path.{sym, ◌∙◌}
+use Rattle.std.proofs.Common.{sym, ◌∙◌}
 use borrow.Author.Tests.{not-true, not-false}
 use Rattle.two_laws.proofs.SearchTwo.{sound-head}
 use Rattle.write.proofs.Rooted.{root-sound}
@@ -10,7 +10,8 @@ use Rattle.judge.proofs.finish.Goals.{then-is_some-via-then-is_some, then-is_som
 pub returns-then-is_some : goal.returns-then-is_some
 returns-then-is_some c = elim c.then-is_some.branch [
   | then-is_some-via-then-is_some w ↦ end-line _ _ _ _ (sym c.is_some.ensures ∙ w.if-is_some.true)
-  | then-is_some-via-else-is_some+then-not-is_settled w ↦ end-unsettled _ _ _ _ (sym c.is_some.ensures ∙ w.if-is_some.false) (sym w.is_settled.ensures ∙ w.if-not-is_settled.true)
+  | then-is_some-via-else-is_some+then-not-is_settled w ↦ end-unsettled _ _ _ _ (sym c.is_some.ensures ∙ w.if-is_some.false)
+      (sym w.is_settled.ensures ∙ w.if-not-is_settled.true)
 ]
 
 pub root_of-root-requires-clause-table_value : goal.root_of-root-requires-clause-table_value

@@ -10,7 +10,8 @@ use Rattle.judge.proofs.judge_delete.Goals as goal
 
 pub returns-in_err-start : goal.returns-in_err-start
 returns-in_err-start c = let a = c.args in
-    let both = refused-before (deletion a.collection a.key) a.collection a.table.now a.list.now a.out.now refl (sym c.tests.ensures ∙ c.in_err-start.was) in
+    let both = refused-before (deletion a.collection a.key) a.collection a.table.now a.list.now a.out.now refl
+    (sym c.tests.ensures ∙ c.in_err-start.was) in
     record { value = rw (handed-on c.from_residual.ensures.1) both.0; out_after = both.1 }
 
 pub has_key-requires : goal.has_key-requires

@@ -1,6 +1,5 @@
 -- `judge::judge_insert` meets its contract.
-use mathlib.Core.Path.{refl, sym, ◌∙◌}
-use native.Mathlib.Omega.{arith}
+use Rattle.std.proofs.Common.{sym, refl, ◌∙◌, arith}
 use Rattle.list_laws.proofs.Tools.{handed-on}
 use Rattle.model.specs.declared.Refusal.TheVariants.{ChangeRefused}
 use Rattle.model.proofs.Numbers.{refused-by}
@@ -12,7 +11,8 @@ use Rattle.judge.proofs.judge_insert.Goals as goal
 
 pub returns-in_err-start : goal.returns-in_err-start
 returns-in_err-start c = let a = c.args in
-    let both = refused-before (insertion a.collection a.key a.recording a.access) a.collection a.table.now a.list.now a.out.now refl (sym c.tests.ensures ∙ c.in_err-start.was) in
+    let both = refused-before (insertion a.collection a.key a.recording a.access) a.collection a.table.now a.list.now a.out.now refl
+    (sym c.tests.ensures ∙ c.in_err-start.was) in
     record { value = rw (handed-on c.from_residual.ensures.1) both.0; out_after = both.1 }
 
 pub full_run-run-requires : goal.full_run-run-requires
@@ -25,15 +25,18 @@ may_insert-allowed-requires c = let b = passed-tests c.tests.ensures c.in_ok-sta
 pub returns-then-is_err : goal.returns-then-is_err
 returns-then-is_err c = let a = c.args in
     let b = passed-tests c.tests.ensures c.in_ok-start.was in
-    let z = insert-refused a.collection a.key a.recording a.access a.table.now a.list.now _ _ b _ _ b.root c.full_run-run.ensures c.may_insert-allowed.ensures
+    let z = insert-refused a.collection a.key a.recording a.access a.table.now a.list.now _ _ b _ _ b.root c.full_run-run.ensures
+    c.may_insert-allowed.ensures
     (sym c.is_err.ensures.value ∙ c.if-is_err.true) in
-    let both = refused-change (insertion a.collection a.key a.recording a.access) a.collection a.table.now a.list.now a.out.now refl _ b z in
+    let both = refused-change (insertion a.collection a.key a.recording a.access) a.collection a.table.now
+    a.list.now a.out.now refl _ b z in
     record { value = sym (refused-by ChangeRefused) ∙ both.0; out_after = both.1 }
 
 pub join-requires : goal.join-requires
 join-requires c = let a = c.args in
     let b = passed-tests c.tests.ensures c.in_ok-start.was in
-    let n = insert-accepted a.collection a.key a.recording a.access a.table.now a.list.now _ _ b _ _ b.root c.full_run-run.ensures c.may_insert-allowed.ensures
+    let n = insert-accepted a.collection a.key a.recording a.access a.table.now a.list.now _ _ b _ _ b.root c.full_run-run.ensures
+    c.may_insert-allowed.ensures
     (sym c.is_err.ensures.value ∙ c.if-is_err.false) in
     let low = insert-low a.collection a.key a.recording a.access a.table.now a.list.now _ _ b n in
     record { recording_bound = low.0; access_bound = omega (arith, low.1) }
@@ -47,8 +50,10 @@ judge_copy-requires c = let b = passed-tests c.tests.ensures c.in_ok-start.was i
 pub returns : goal.returns
 returns c = let a = c.args in
     let b = passed-tests c.tests.ensures c.in_ok-start.was in
-    let n = insert-accepted a.collection a.key a.recording a.access a.table.now a.list.now _ _ b _ _ b.root c.full_run-run.ensures c.may_insert-allowed.ensures
+    let n = insert-accepted a.collection a.key a.recording a.access a.table.now a.list.now _ _ b _ _ b.root c.full_run-run.ensures
+    c.may_insert-allowed.ensures
     (sym c.is_err.ensures.value ∙ c.if-is_err.false) in
     let both = judged-change (insertion a.collection a.key a.recording a.access) a.collection a.table.now a.list.now a.out.now refl _ b n _
-    (insert-wanted a.collection a.key a.recording a.access a.table.now a.list.now _ _ b n _ c.join.ensures) _ c.judge_copy.ensures.value _ c.judge_copy.ensures.out_after in
+    (insert-wanted a.collection a.key a.recording a.access a.table.now a.list.now _ _ b n _ c.join.ensures) _ c.judge_copy.ensures.value _
+    c.judge_copy.ensures.out_after in
     record { value = both.0; out_after = both.1 }

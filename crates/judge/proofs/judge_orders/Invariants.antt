@@ -10,5 +10,6 @@ use Rattle.judge.proofs.judge_orders.Given as goal
 abbrev pub invariant-loop-i : goal.invariant-loop-i
 invariant-loop-i l = record {
   pairs : chunks_exact_size (enumerate_source l.i-iterator) ≡ 2;
-  going : Going (maps_of l.plan.table.now) (wanted l.plan.change l.plan.table.now) l.plan.table.now l.list l.image l.line (enumerate_count l.i-iterator) (chunks_exact_rest (enumerate_source l.i-iterator));
+  going : Going (maps_of l.plan.table.now) (wanted l.plan.change l.plan.table.now) l.plan.table.now l.list l.image l.line
+      (enumerate_count l.i-iterator) (chunks_exact_rest (enumerate_source l.i-iterator));
 }

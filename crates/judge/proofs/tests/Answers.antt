@@ -18,21 +18,25 @@ returns-in_err-found c =
 pub returns-then-not-is_nothing : goal.returns-then-not-is_nothing
 returns-then-not-is_nothing c =
     sym (refused-by NotSettled)
-    ∙ not-settled _ _ _ _ (sym c.find_root.ensures ∙ c.in_ok-root.was) c.check.ensures (sym c.ok_or.ensures.value ∙ c.in_ok-found.was) c.is_nothing.ensures c.if-not-is_nothing.true
+    ∙ not-settled _ _ _ _ (sym c.find_root.ensures ∙ c.in_ok-root.was) c.check.ensures (sym c.ok_or.ensures.value ∙ c.in_ok-found.was)
+    c.is_nothing.ensures c.if-not-is_nothing.true
 
 pub returns-then-not-all_inside : goal.returns-then-not-all_inside
 returns-then-not-all_inside c =
     sym (refused-by BadOrders)
-    ∙ not-inside _ _ _ _ (sym c.find_root.ensures ∙ c.in_ok-root.was) c.check.ensures (sym c.ok_or.ensures.value ∙ c.in_ok-found.was) c.is_nothing.ensures c.if-not-is_nothing.false
+    ∙ not-inside _ _ _ _ (sym c.find_root.ensures ∙ c.in_ok-root.was) c.check.ensures (sym c.ok_or.ensures.value ∙ c.in_ok-found.was)
+    c.is_nothing.ensures c.if-not-is_nothing.false
     c.all_inside.ensures c.if-not-all_inside.true
 
 pub returns-then-words-table : goal.returns-then-words-table
 returns-then-words-table c =
     sym (refused-by OtherLength)
-    ∙ other-length _ _ _ _ (sym c.find_root.ensures ∙ c.in_ok-root.was) c.check.ensures (sym c.ok_or.ensures.value ∙ c.in_ok-found.was) c.is_nothing.ensures c.if-not-is_nothing.false
+    ∙ other-length _ _ _ _ (sym c.find_root.ensures ∙ c.in_ok-root.was) c.check.ensures (sym c.ok_or.ensures.value ∙ c.in_ok-found.was)
+    c.is_nothing.ensures c.if-not-is_nothing.false
     c.all_inside.ensures c.if-not-all_inside.false c.if-words-table.true
 
 pub returns : goal.returns
 returns c =
-    all-passed _ _ _ _ (sym c.find_root.ensures ∙ c.in_ok-root.was) c.check.ensures (sym c.ok_or.ensures.value ∙ c.in_ok-found.was) c.is_nothing.ensures c.if-not-is_nothing.false
+    all-passed _ _ _ _ (sym c.find_root.ensures ∙ c.in_ok-root.was) c.check.ensures (sym c.ok_or.ensures.value ∙ c.in_ok-found.was)
+    c.is_nothing.ensures c.if-not-is_nothing.false
     c.all_inside.ensures c.if-not-all_inside.false c.if-words-table.false

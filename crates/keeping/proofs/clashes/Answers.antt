@@ -9,5 +9,6 @@ use Rattle.keeping.proofs.clashes.Goals as goal
 pub returns : goal.returns
 returns c = let a = c.args in
     let r = recording_of a.pair.pointer in
-    any_from_yields_List (clashing a.entered.table.now a.entered.order.now a.marks.now a.pair.key r) _ _ c.any.result c.any.ensures.ran (rev-yields a.end c.rev.ensures.source) (λ x b q k. search (rules, tests))
+    any_from_yields_List (clashing a.entered.table.now a.entered.order.now a.marks.now a.pair.key r) _ _ c.any.result c.any.ensures.ran
+    (rev-yields a.end c.rev.ensures.source) (λ x b q k. search (rules, tests))
     ∙ clash-any a.entered.table.now a.entered.order.now a.marks.now a.pair.key r a.end

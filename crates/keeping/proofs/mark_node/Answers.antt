@@ -1,12 +1,12 @@
 -- `keeping::mark_node` meets its contract.
-use mathlib.Core.Path.{◌≡◌, ◌∙◌}
-use mathlib.Core.Bool.{cond}
+use Rattle.std.proofs.Common.{◌≡◌, cond, ◌∙◌}
 use Rattle.keeping.proofs.Marks.{marked-one}
 use Rattle.keeping.proofs.Nodes.{looking-start, looking-step, looking-stop, looking-end, looking-none}
 use Rattle.keeping.proofs.mark_node.Goals as goal
 
 pub returns-then-x-ne0 : goal.returns-then-x-ne0
-returns-then-x-ne0 c = let a = c.args in let r = c.read-x in looking-none a.entered.table.now a.entered.order.now a.j r.result r.ensures a.marks.now c.if-x-ne0.true
+returns-then-x-ne0 c = let a = c.args in let r =
+    c.read-x in looking-none a.entered.table.now a.entered.order.now a.j r.result r.ensures a.marks.now c.if-x-ne0.true
 
 pub loop-i-init : goal.loop-i-init
 loop-i-init c = let a = c.args in

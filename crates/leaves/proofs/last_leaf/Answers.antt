@@ -1,5 +1,5 @@
 -- `leaves::last_leaf` meets its contract. The loop keeps the leaf that the last child leads to from the present node.
-use Rattle.std.proofs.Common.{arith, ◌∙◌}
+use Rattle.std.proofs.Common.{◌∙◌, arith}
 use native.Mathlib.Numerals.{unary_clauses}
 use Rattle.leaves.proofs.HitLaws.{last-below, last-here, last-down}
 use Rattle.leaves.proofs.last_leaf.Goals as goal

@@ -21,5 +21,6 @@ returns-then-not-is_sound c =
 
 pub returns : goal.returns
 returns c =
-    let both = done _ _ _ _ _ (sym c.find_root.ensures ∙ c.in_ok-root.was) _ _ _ (sym c.is_sound.ensures ∙ c.if-not-is_sound.false) c.standing-first.ensures c.list_from.ensures in
+    let both = done _ _ _ _ _ (sym c.find_root.ensures ∙ c.in_ok-root.was) _ _ _ (sym c.is_sound.ensures ∙ c.if-not-is_sound.false)
+    c.standing-first.ensures c.list_from.ensures in
     record { value = both.0; out_after = both.1 }

@@ -10,7 +10,8 @@ use Rattle.listing.proofs.list_from.Goals as goal
 pub loop-leaf-init : goal.loop-leaf-init
 loop-leaf-init c = (
   λ e. absurd (false≢true e),
-  ahead-first _ _ _ _ _ _ (begun c.args.out.now) c.word_at.ensures (ap siblings_left c.into_iter-leaf-iterator.ensures.into_iter_gives ∙ c.new-leaf-items.ensures),
+  ahead-first _ _ _ _ _ _ (begun c.args.out.now) c.word_at.ensures
+      (ap siblings_left c.into_iter-leaf-iterator.ensures.into_iter_gives ∙ c.new-leaf-items.ensures),
 )
 
 pub returns-then-p : goal.returns-then-p
@@ -22,7 +23,8 @@ returns-then-high-x c = ahead-past _ _ _ _ _ _ _ _ _ c.read-x.ensures c.in-Some.
 pub loop-leaf-preserved : goal.loop-leaf-preserved
 loop-leaf-preserved c = (
   spent-after _ _ _ c.loop-leaf.invariant.0 c.list_leaf-p.ensures,
-  ahead-next _ _ _ _ _ _ _ _ _ c.read-x.ensures c.in-Some.ensures.steps c.loop-leaf.invariant.1 _ _ c.if-high-x.false c.word.ensures c.list_leaf-p.ensures,
+  ahead-next _ _ _ _ _ _ _ _ _ c.read-x.ensures c.in-Some.ensures.steps c.loop-leaf.invariant.1 _ _ c.if-high-x.false
+      c.word.ensures c.list_leaf-p.ensures,
 )
 
 pub returns : goal.returns

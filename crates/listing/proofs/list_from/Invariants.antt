@@ -8,4 +8,5 @@ use Rattle.listing.proofs.list_from.Given as goal
 
 abbrev pub invariant-loop-leaf : goal.invariant-loop-leaf
 invariant-loop-leaf l = Spent (sheet l.out l.p)
-    × Ahead l.table l.low l.high (siblings_left l.leaf-iterator) (sheet l.out l.p) (all_taken (pairs_from (view l.table) l.low l.high l.first) (begun l.initial.out))
+    × Ahead l.table l.low l.high (siblings_left l.leaf-iterator) (sheet l.out l.p)
+    (all_taken (pairs_from (view l.table) l.low l.high l.first) (begun l.initial.out))

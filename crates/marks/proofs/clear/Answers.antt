@@ -1,7 +1,5 @@
 -- `marks::clear` meets its contract.
-use borrow.Author.Rules.{rules}
-use mathlib.Core.Bool.{true, false}
-use mathlib.Core.Path.{◌≡◌, sym, ◌∙◌}
+use Rattle.std.proofs.Common.{◌≡◌, true, false, sym, ◌∙◌, rules}
 use Rattle.marks.proofs.Words.{clear-none, clear-word}
 use Rattle.marks.proofs.clear.Goals as goal
 

@@ -1,6 +1,5 @@
 -- `marks::few_after` meets its contract. The loop keeps that the nodes that are left, and those that are passed, come to all of them.
-use mathlib.Core.Path.{◌≡◌}
-use Prim.Native.Nat.{◌+◌, ◌≤◌}
+use Rattle.std.proofs.Common.{◌≡◌, ◌+◌, ◌≤◌}
 use Rattle.model.specs.Marks.{has}
 use Rattle.marks.proofs.Rows.{rest_after}
 use Rattle.marks.proofs.few_after.Given as goal

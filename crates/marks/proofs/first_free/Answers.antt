@@ -1,6 +1,5 @@
 -- `marks::first_free` meets its contract. The loop keeps what the nodes from n on come to.
-use mathlib.Core.Path.{sym, ◌∙◌}
-use native.Mathlib.Omega.{arith}
+use Rattle.std.proofs.Common.{sym, ◌∙◌, arith}
 use Rattle.model.specs.Summary.{unmarked}
 use Rattle.marks.proofs.Rows.{first-none, first-here, first-past}
 use Rattle.marks.proofs.first_free.Goals as goal

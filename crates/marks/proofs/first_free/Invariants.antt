@@ -1,6 +1,5 @@
 -- `marks::first_free` meets its contract. The loop keeps what the nodes from n on come to.
-use mathlib.Core.Path.{◌≡◌}
-use Prim.Native.Nat.{◌+◌, ◌-◌}
+use Rattle.std.proofs.Common.{◌≡◌, ◌+◌, ◌-◌}
 use Rattle.model.specs.Marks.{has}
 use Rattle.marks.proofs.Rows.{first_from}
 use Rattle.marks.proofs.first_free.Given as goal

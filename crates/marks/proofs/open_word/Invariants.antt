@@ -1,6 +1,5 @@
 -- `marks::open_word` meets its contract. The loop keeps that the words before word i are full.
-use mathlib.Core.Path.{◌≡◌}
-use Prim.Native.Nat.{ℕ, ◌≤◌, ◌<◌}
+use Rattle.std.proofs.Common.{◌≡◌, ℕ, ◌<◌, ◌≤◌}
 use Rattle.model.specs.Table.{MARK, at}
 use Rattle.marks.proofs.open_word.Given as goal
 

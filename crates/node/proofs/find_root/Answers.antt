@@ -16,4 +16,5 @@ returns-in_err-header c =
 
 pub returns : goal.returns
 returns c =
-    sym (refused-by NoCollection) ∙ root-no-collection _ _ _ c.root-root.ensures c.if-root-ne0.false (passed-zero _ (sym c.header.ensures ∙ c.in_ok-header.was))
+    sym (refused-by NoCollection)
+    ∙ root-no-collection _ _ _ c.root-root.ensures c.if-root-ne0.false (passed-zero _ (sym c.header.ensures ∙ c.in_ok-header.was))

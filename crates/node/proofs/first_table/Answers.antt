@@ -1,6 +1,5 @@
 -- `node::first_table` meets its contract.
-use mathlib.Core.Path.{◌≡◌, refl, ◌∙◌}
-use lib.ListN.{replicate}
+use Rattle.std.proofs.Common.{◌≡◌, replicate, refl, ◌∙◌}
 use Rattle.model.specs.Table.{length_ok, table_length, nodes_for, empty, empty_of, make_number, made}
 use Rattle.node.proofs.first_table.Goals as goal
 

@@ -1,6 +1,5 @@
 -- `node::has` meets its contract.
-use mathlib.Core.Path.{sym}
-use native.Mathlib.Omega.{arith}
+use Rattle.std.proofs.Common.{sym, arith}
 use Rattle.node.proofs.Answers.{has-none, has-divided}
 use Rattle.node.proofs.has.Goals as goal
 

@@ -19,4 +19,5 @@ pub returns-in-2-2 : goal.returns-in-2-2
 returns-in-2-2 c = passes (number-two _ _ _ (nodes-in-found _ _ c.nodes_in-n.ensures c.if-n-eq0.false) c.in-2.is c.if-n-eq1.false)
 
 pub returns-in_default : goal.returns-in_default
-returns-in_default c = fails NoCollection (number-other _ _ _ (nodes-in-found _ _ c.nodes_in-n.ensures c.if-n-eq0.false) (search rules) (search rules))
+returns-in_default c =
+    fails NoCollection (number-other _ _ _ (nodes-in-found _ _ c.nodes_in-n.ensures c.if-n-eq0.false) (search rules) (search rules))

@@ -1,6 +1,5 @@
 -- `node::nodes_in` meets its contract.
-use mathlib.Core.Path.{sym}
-use native.Mathlib.Omega.{arith}
+use Rattle.std.proofs.Common.{sym, arith}
 use Rattle.model.specs.Table.{nodes_for}
 use Rattle.node.proofs.Answers.{length-refused, nodes-in-none, nodes-in-some}
 use Rattle.node.proofs.nodes_in.Goals as goal

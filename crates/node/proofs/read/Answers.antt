@@ -1,6 +1,5 @@
 -- `node::read` meets its contract.
-use mathlib.Core.Path.{sym}
-use native.Mathlib.Omega.{arith}
+use Rattle.std.proofs.Common.{sym, arith}
 use Rattle.node.proofs.Answers.{start-found, start-missing, node-none, node-some}
 use Rattle.node.proofs.read.Goals as goal
 

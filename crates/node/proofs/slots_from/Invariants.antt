@@ -1,7 +1,5 @@
 -- The words of the first i slots are the table's.
-use mathlib.Core.Path.{◌≡◌}
-use Prim.Native.Nat.{◌*◌}
-use lib.ListN.{length, take, drop}
+use Rattle.std.proofs.Common.{◌≡◌, ◌*◌, length, take, drop}
 use Rattle.node.proofs.slots_from.Given as goal
 
 abbrev pub invariant-loop-i : goal.invariant-loop-i

@@ -1,10 +1,5 @@
 -- `node::start` meets its contract.
-use mathlib.Core.Bool.{Bool, true, false}
-use mathlib.Core.Path.{◌≡◌, sym, ◌∙◌}
-use Prim.Native.Nat.{ℕ, ◌+◌, ◌*◌, ◌≤◌}
-use native.Mathlib.Omega.{arith}
-use borrow.Author.Rules.{rules}
-use lib.ListN.{length}
+use Rattle.std.proofs.Common.{◌≡◌, ℕ, ◌+◌, ◌*◌, ◌≤◌, Bool, true, false, length, sym, ◌∙◌, arith, rules}
 use Rattle.model.specs.Table.{Words, has_node, node_start}
 use Rattle.table_laws.proofs.Nodes.{has-node-iff}
 use Rattle.node.proofs.Answers.{start-none, start-some}

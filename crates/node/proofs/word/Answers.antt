@@ -1,6 +1,5 @@
 -- `node::word` meets its contract.
-use mathlib.Core.Path.{sym}
-use native.Mathlib.Omega.{arith}
+use Rattle.std.proofs.Common.{sym, arith}
 use Rattle.node.proofs.Answers.{start-found, start-missing, word-none, word-past, word-found}
 use Rattle.node.proofs.word.Goals as goal
 

@@ -1,6 +1,5 @@
 -- `numbers::enter` meets its contract.
-use mathlib.Core.Path.{refl, ◌∙◌}
-use native.Mathlib.Omega.{arith}
+use Rattle.std.proofs.Common.{refl, ◌∙◌, arith}
 use native.Mathlib.Nat.{sub-zero, sub-add-eq}
 use Rattle.numbers.proofs.Trying.{no-number, some-number, tried-known, tried-free, tried-more, tried-end}
 use Rattle.numbers.proofs.enter.Goals as goal
@@ -18,8 +17,11 @@ pub returns-then-held-eq0 : goal.returns-then-held-eq0
 returns-then-held-eq0 c = tried-free _ _ _ _ _ (omega arith) c.if-held-number.false c.if-held-eq0.true ∙ c.loop.invariant.2
 
 pub loop-preserved : goal.loop-preserved
-loop-preserved c = let e = c.next_cell-at.ensures in
-    (refl, e.upper_bound, rw sub-add-eq (tried-more _ _ _ _ _ (omega arith) c.if-held-number.false c.if-held-eq0.false _ e.value ∙ c.loop.invariant.2))
+loop-preserved c = let e = c.next_cell-at.ensures in (
+  refl,
+  e.upper_bound,
+  rw sub-add-eq (tried-more _ _ _ _ _ (omega arith) c.if-held-number.false c.if-held-eq0.false _ e.value ∙ c.loop.invariant.2),
+)
 
 pub returns : goal.returns
 returns c = tried-end _ _ _ _ _ (omega arith) ∙ c.loop.invariant.2

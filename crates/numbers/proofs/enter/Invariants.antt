@@ -1,7 +1,5 @@
 -- What the tries that are left come to is what all of them come to.
-use Prim.Native.Nat.{◌<◌, ◌-◌}
-use mathlib.Core.Path.{◌≡◌}
-use lib.ListN.{length}
+use Rattle.std.proofs.Common.{◌≡◌, ◌-◌, ◌<◌, length}
 use Rattle.numbers.specs.Cells.{tried, entered}
 use Rattle.numbers.proofs.enter.Given as goal
 

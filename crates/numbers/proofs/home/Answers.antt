@@ -1,6 +1,5 @@
 -- `numbers::home` meets its contract.
-use mathlib.Core.Path.{refl}
-use native.Mathlib.Nat.{mod-lt}
+use Rattle.std.proofs.Common.{refl, mod-lt}
 use Rattle.numbers.proofs.Trying.{home-is}
 use Rattle.numbers.proofs.home.Goals as goal
 

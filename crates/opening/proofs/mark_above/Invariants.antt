@@ -6,4 +6,5 @@ use Rattle.opening.specs.Passes.{levels, above}
 use Rattle.opening.proofs.mark_above.Given as goal
 
 abbrev pub invariant-loop : goal.invariant-loop
-invariant-loop l = let v = view_from l.table l.root in put_each (levels v (height v - l.counter) l.first) l.marks ≡ put_each (above v) l.initial.marks
+invariant-loop l = let v =
+    view_from l.table l.root in put_each (levels v (height v - l.counter) l.first) l.marks ≡ put_each (above v) l.initial.marks

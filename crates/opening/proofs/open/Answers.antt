@@ -1,6 +1,5 @@
 -- `opening::open` meets its contract.
-use mathlib.Core.Path.{◌≡◌, ap, sym, ◌∙◌}
-use mathlib.Core.Bool.{true}
+use Rattle.std.proofs.Common.{◌≡◌, true, sym, ap, ◌∙◌}
 use Rattle.std.specs.Prelude.{length}
 use Rattle.std.specs.Result.{result_ok}
 use Rattle.model.specs.declared.Refusal.TheVariants.{OtherSummary, NotSettled}
@@ -33,33 +32,44 @@ summary_words-requires c = words-few _ _ (good (goal.at.summary_words-requires c
 
 pub returns-then-summary-summary_words : goal.returns-then-summary-summary_words
 returns-then-summary-summary_words c = let a = c.args in
-    let other = λ (e : length a.summary.now ≡ summary_words (nodes a.table.now)). c.if-summary-summary_words.true (e ∙ ap summary_words (sym c.word_at.ensures) ∙ sym c.summary_words.ensures) in
+    let other = λ (e : length a.summary.now ≡ summary_words (nodes a.table.now)). c.if-summary-summary_words.true
+    (e ∙ ap summary_words (sym c.word_at.ensures) ∙ sym c.summary_words.ensures) in
     let both = other-length a.table.now a.summary.now (good (goal.at.returns-then-summary-summary_words c).In_ok-header) other in
     record { value = sym (refused-by OtherSummary) ∙ both.0; summary_after = both.1 }
 
 pub returns-in_err-whole : goal.returns-in_err-whole
 returns-in_err-whole c = let a = c.args in
-    let l : length a.summary.now ≡ summary_words (nodes a.table.now) = c.if-summary-summary_words.false ∙ c.summary_words.ensures ∙ ap summary_words c.word_at.ensures in
-    let both = not-sound a.table.now a.summary.now (good (goal.at.returns-in_err-whole c).In_ok-header) l c.check.ensures (sym c.ok_or.ensures.value ∙ c.in_err-whole.was) in
+    let l : length a.summary.now ≡ summary_words (nodes a.table.now) =
+    c.if-summary-summary_words.false ∙ c.summary_words.ensures ∙ ap summary_words c.word_at.ensures in
+    let both = not-sound a.table.now a.summary.now (good (goal.at.returns-in_err-whole c).In_ok-header) l c.check.ensures
+    (sym c.ok_or.ensures.value ∙ c.in_err-whole.was) in
     record { value = rw (handed-on c.from_residual-in_err-whole.ensures.1) both.0; summary_after = both.1 }
 
 pub returns-then-not-is_nothing : goal.returns-then-not-is_nothing
 returns-then-not-is_nothing c = let a = c.args in
-    let l : length a.summary.now ≡ summary_words (nodes a.table.now) = c.if-summary-summary_words.false ∙ c.summary_words.ensures ∙ ap summary_words c.word_at.ensures in
+    let l : length a.summary.now ≡ summary_words (nodes a.table.now) =
+    c.if-summary-summary_words.false ∙ c.summary_words.ensures ∙ ap summary_words c.word_at.ensures in
     let s = found (goal.at.returns-then-not-is_nothing c).In_ok-whole in
-    let both = not-settled a.table.now a.summary.now (good (goal.at.returns-then-not-is_nothing c).In_ok-header) l _ _ s (sym c.is_nothing.ensures ∙ c.if-not-is_nothing.true) in
+    let both = not-settled a.table.now a.summary.now (good (goal.at.returns-then-not-is_nothing c).In_ok-header) l _ _ s
+    (sym c.is_nothing.ensures ∙ c.if-not-is_nothing.true) in
     record { value = sym (refused-by NotSettled) ∙ both.0; summary_after = both.1 }
 
 pub write_summary-requires : goal.write_summary-requires
 write_summary-requires c = let a = c.args in
-    let l : length a.summary.now ≡ summary_words (nodes a.table.now) = c.if-summary-summary_words.false ∙ c.summary_words.ensures ∙ ap summary_words c.word_at.ensures in
+    let l : length a.summary.now ≡ summary_words (nodes a.table.now) =
+    c.if-summary-summary_words.false ∙ c.summary_words.ensures ∙ ap summary_words c.word_at.ensures in
     let s = found (goal.at.write_summary-requires c).In_ok-whole in
-    record { table_value = now-settled a.table.now a.summary.now (good (goal.at.write_summary-requires c).In_ok-header) l _ _ s (sym c.is_nothing.ensures ∙ c.if-not-is_nothing.false); summary_len = l }
+    record {
+      table_value = now-settled a.table.now a.summary.now (good (goal.at.write_summary-requires c).In_ok-header) l _ _ s
+          (sym c.is_nothing.ensures ∙ c.if-not-is_nothing.false);
+      summary_len = l;
+    }
 
 pub returns : goal.returns
 returns c = let a = c.args in
     let h = good (goal.at.returns c).In_ok-header in
-    let l : length a.summary.now ≡ summary_words (nodes a.table.now) = c.if-summary-summary_words.false ∙ c.summary_words.ensures ∙ ap summary_words c.word_at.ensures in
+    let l : length a.summary.now ≡ summary_words (nodes a.table.now) =
+    c.if-summary-summary_words.false ∙ c.summary_words.ensures ∙ ap summary_words c.word_at.ensures in
     let s = found (goal.at.returns c).In_ok-whole in
     let n = now-settled a.table.now a.summary.now h l _ _ s (sym c.is_nothing.ensures ∙ c.if-not-is_nothing.false) in
     let both = is-opened a.table.now a.summary.now h l _ _ s n c.write_summary.new.summary c.write_summary.ensures in

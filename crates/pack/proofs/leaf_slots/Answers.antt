@@ -1,7 +1,5 @@
 -- `pack::leaf_slots` meets its contract.
-use mathlib.Core.Path.{◌≡◌}
-use Prim.Native.Nat.{◌+◌, ◌-◌, ◌*◌}
-use native.Mathlib.Omega.{arith}
+use Rattle.std.proofs.Common.{◌≡◌, ◌+◌, ◌-◌, ◌*◌, arith}
 use Rattle.pack.proofs.Filling.{leaf-copied}
 use Rattle.pack.proofs.leaf_slots.Goals as goal
 

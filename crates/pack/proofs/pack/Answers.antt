@@ -1,9 +1,5 @@
 -- `pack::pack` meets its contract.
-use mathlib.Core.Path.{◌≡◌, ap, ◌∙◌}
-use mathlib.Core.List.{◌++◌}
-use Prim.Native.Nat.{suc, ◌+◌, ◌-◌, ◌*◌, ◌/◌, ◌≤◌, ◌<◌}
-use native.Mathlib.Omega.{arith}
-use lib.ListN.{length, take, drop}
+use Rattle.std.proofs.Common.{◌≡◌, suc, ◌+◌, ◌-◌, ◌*◌, ◌/◌, ◌<◌, ◌≤◌, ◌++◌, length, take, drop, ap, ◌∙◌, arith}
 use Rattle.model.specs.Table.{Words}
 use Rattle.model.specs.Packing.{bottom, row_words}
 use Rattle.pack_laws.specs.Needed.{nodes_above}
@@ -14,11 +10,13 @@ use Rattle.pack.proofs.pack.Goals as goal
 
 -- the slice with the leaves put back
 abbrev whole : (g : _) → After-put_leaves g → Words
-whole g c = let ws = c.args.nodes.now in let w = 32 * c.args.before in take w ws ++ (c.put_leaves.new.nodes ++ drop (length ws - w) (drop w ws))
+whole g c = let ws = c.args.nodes.now in let w =
+    32 * c.args.before in take w ws ++ (c.put_leaves.new.nodes ++ drop (length ws - w) (drop w ws))
 
 put-back : (g : _) (c : After-put_leaves g)
     → let a = c.args in let ws = a.nodes.now in let w = 32 * a.before in
-    whole g c ≡ take w ws ++ (row_words 0 (suc a.before) (bottom (pairs_after a.before ws a.pairs)) ++ drop (32 * suc ((a.pairs - 1) / 11)) (drop w ws))
+    whole g c ≡ take w ws
+    ++ (row_words 0 (suc a.before) (bottom (pairs_after a.before ws a.pairs)) ++ drop (32 * suc ((a.pairs - 1) / 11)) (drop w ws))
 put-back g c = let e = c.leaf_count-leaves in
     leaves-back _ _ _ g.count c.requires.0 c.requires.2 c.put_leaves.new.nodes e.result e.ensures c.put_leaves.ensures
 
@@ -46,6 +44,7 @@ clear-requires g c = let f = rows g (goal.at.clear-requires g c).After-put_leave
 pub returns : goal.returns
 returns g c = let e = c.leaf_count-leaves in
     let r = c.put_rows-root in
-    let both = packed-all _ _ _ g.count c.requires.0 c.requires.2 _ (put-back g (goal.at.returns g c).After-put_leaves) _ _ e.result _ e.ensures
+    let both = packed-all _ _ _ g.count c.requires.0 c.requires.2 _ (put-back g (goal.at.returns g c).After-put_leaves)
+    _ _ e.result _ e.ensures
     r.ensures.nodes_after r.ensures.value c.clear.ensures in
     record { nodes_after = both.0; value = both.1 }

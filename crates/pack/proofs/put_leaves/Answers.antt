@@ -1,6 +1,5 @@
 -- `pack::put_leaves` meets its contract.
-use Prim.Native.Nat.{◌-◌}
-use native.Mathlib.Omega.{arith}
+use Rattle.std.proofs.Common.{◌-◌, arith}
 use Rattle.pack.proofs.Leaves.{written-start, written-step}
 use Rattle.pack.proofs.put_leaves.Goals as goal
 

@@ -8,7 +8,8 @@ pub loop-g-preserved : goal.loop-g-preserved
 loop-g-preserved c = let t = c.loop-g-test.true in
     let l = c.loop-g in
     let e = row-above _ _ c.div_ceil-row.ensures in
-    raised-step _ _ _ _ c.requires.0 l.nodes _ l.g c.min.result (omega (arith, t, e)) (omega (arith, c.min.ensures)) l.invariant (rw e at c.put_inner.ensures)
+    raised-step _ _ _ _ c.requires.0 l.nodes _ l.g c.min.result (omega (arith, t, e)) (omega (arith, c.min.ensures)) l.invariant
+    (rw e at c.put_inner.ensures)
 
 pub returns : goal.returns
 returns c = let e = row-above _ _ c.div_ceil-row.ensures in

@@ -1,6 +1,5 @@
 -- `pack::put_words` meets its contract.
-use native.Mathlib.Omega.{arith}
-use borrow.Author.Rules.{rules}
+use Rattle.std.proofs.Common.{arith, rules}
 use Rattle.pack.proofs.Filling.{written-over}
 use Rattle.pack.proofs.put_words.Goals as goal
 

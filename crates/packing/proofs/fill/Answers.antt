@@ -1,8 +1,5 @@
 -- `packing::fill` meets its contract.
-use mathlib.Core.Path.{◌≡◌}
-use Prim.Native.Nat.{◌+◌, ◌-◌, ◌*◌, ◌/◌}
-use native.Mathlib.Omega.{arith}
-use lib.ListN.{length, take}
+use Rattle.std.proofs.Common.{◌≡◌, ◌+◌, ◌-◌, ◌*◌, ◌/◌, length, take, arith}
 use lib.Seq.{sets}
 use borrow.Rule.Slice.PartMut.{put_mid}
 use Rattle.pack.proofs.Filling.{written-over}
@@ -16,13 +13,15 @@ copied : (g : _) (c : After-copy_from_slice g) → let a = c.args in let w = 32 
 copied g c = let a = c.args in
     let n = pairs-long a.pairs.now in
     let f = pairs-fit a.words.now a.pairs.now a.before g.top c.requires.0 c.requires.1 c.requires.2 in
-    written-over a.words.now (take (2 * (length a.pairs.now / 2)) a.pairs.now) _ (32 * a.before) _ c.copy_from_slice.ensures.after (omega (arith, n)) (omega (arith, f))
+    written-over a.words.now (take (2 * (length a.pairs.now / 2)) a.pairs.now) _ (32 * a.before) _ c.copy_from_slice.ensures.after
+    (omega (arith, n)) (omega (arith, f))
 
 pub slice_bounds-copy_from_slice-end : goal.slice_bounds-copy_from_slice-end
 slice_bounds-copy_from_slice-end g c = pairs-fit _ _ _ g.top c.requires.0 c.requires.1 c.requires.2
 
 pub pack-requires : goal.pack-requires
-pack-requires g c = pack-fits _ _ _ g.top c.requires.0 c.requires.1 c.requires.2 _ (copied g (goal.at.pack-requires g c).After-copy_from_slice)
+pack-requires g c = pack-fits _ _ _ g.top c.requires.0 c.requires.1 c.requires.2 _
+    (copied g (goal.at.pack-requires g c).After-copy_from_slice)
 
 pub returns : goal.returns
 returns g c = let x = c.pack in

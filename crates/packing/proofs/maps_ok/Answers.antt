@@ -1,6 +1,5 @@
 -- `packing::maps_ok` meets its contract.
-use mathlib.Core.Path.{◌∙◌}
-use borrow.Author.Tests.{eq-eqb}
+use Rattle.std.proofs.Common.{◌∙◌, eq-eqb}
 use Rattle.packing.proofs.Fits.{first-bad, ok-alone, ok-beside}
 use Rattle.packing.proofs.maps_ok.Goals as goal
 

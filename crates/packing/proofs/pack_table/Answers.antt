@@ -1,6 +1,5 @@
 -- `packing::pack_table` meets its contract.
-use mathlib.Core.Path.{◌≡◌, sym, ◌∙◌}
-use lib.ListN.{length}
+use Rattle.std.proofs.Common.{◌≡◌, length, sym, ◌∙◌}
 use Rattle.list_laws.proofs.Tools.{handed-on}
 use Rattle.model.specs.Table.{nodes_for, make_number}
 use Rattle.model.proofs.Numbers.{passed-zero, failed-some, failed-with}
@@ -38,14 +37,17 @@ returns-then-outgrows c = let t = (goal.at.returns-then-outgrows c).After-nodes_
 
 pub returns-then-not-maps_ok : goal.returns-then-not-maps_ok
 returns-then-not-maps_ok c = let t = (goal.at.returns-then-not-maps_ok c).After-nodes_in-top in
-    let r = refused-pairs _ _ _ _ (number t) _ (size t) _ c.outgrows.ensures c.if-outgrows.false _ c.maps_ok.ensures c.if-not-maps_ok.true in
+    let r = refused-pairs _ _ _ _ (number t) _ (size t) _ c.outgrows.ensures c.if-outgrows.false _ c.maps_ok.ensures
+    c.if-not-maps_ok.true in
     record { value = r.0; table_after = r.1 }
 
 pub put_table-requires : goal.put_table-requires
-put_table-requires c = let f = sized (goal.at.put_table-requires c).After-nodes_in-top in (f.long, f.few, not-grown _ _ _ c.outgrows.ensures c.if-outgrows.false)
+put_table-requires c = let f =
+    sized (goal.at.put_table-requires c).After-nodes_in-top in (f.long, f.few, not-grown _ _ _ c.outgrows.ensures c.if-outgrows.false)
 
 pub returns : goal.returns
 returns c = let t = (goal.at.returns c).After-nodes_in-top in
     let x = c.put_table in
-    let r = packs _ _ _ _ (number t) _ (size t) _ c.outgrows.ensures c.if-outgrows.false _ c.maps_ok.ensures c.if-not-maps_ok.false x.new.table x.ensures in
+    let r = packs _ _ _ _ (number t) _ (size t) _ c.outgrows.ensures c.if-outgrows.false _ c.maps_ok.ensures c.if-not-maps_ok.false
+    x.new.table x.ensures in
     record { value = r.0; table_after = r.1 }

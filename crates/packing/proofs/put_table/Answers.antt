@@ -12,5 +12,6 @@ pub returns : goal.returns
 returns c = let a = c.args in
     let f = c.fill_both-roots in
     let h = c.put_header in
-    put-table a.table.now a.top c.requires.0 (maps_in a.maps.collections a.maps.pairs.now a.maps.loans.now) f.new.words h.new.table f.result.one f.result.two
+    put-table a.table.now a.top c.requires.0 (maps_in a.maps.collections a.maps.pairs.now a.maps.loans.now) f.new.words h.new.table
+    f.result.one f.result.two
     (rw (nodes-count a.table.now a.top c.requires.0) at f.ensures.words_after) f.ensures.one_value h.ensures

@@ -9,4 +9,5 @@ use Rattle.pairs.proofs.in_range.Goals as goal
 
 pub returns : goal.returns
 returns c = let ws = c.args.pairs.now in let z = c.chunks_exact.ensures in
-    all_from_yields_List pair_ok _ _ c.all.result c.all.ensures.ran (pairs-come ws _ z.size z.rest) (λ x b q k. search (rules, tests)) ∙ listed-all pair_ok (slots_of ws)
+    all_from_yields_List pair_ok _ _ c.all.result c.all.ensures.ran (pairs-come ws _ z.size z.rest) (λ x b q k. search (rules, tests))
+    ∙ listed-all pair_ok (slots_of ws)

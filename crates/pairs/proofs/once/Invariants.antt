@@ -1,6 +1,5 @@
 -- `pairs::once` meets its contract. The loop keeps that no number of the passes so far is twice.
-use Prim.Native.Nat.{◌+◌, ◌-◌}
-use mathlib.Core.List.{map}
+use Rattle.std.proofs.Common.{◌+◌, ◌-◌, map}
 use Rattle.model.specs.Slots.{recording, slots_of}
 use Rattle.numbers.specs.Cells.{SPREAD}
 use Rattle.pairs.proofs.Passes.{Passed}

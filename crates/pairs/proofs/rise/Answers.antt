@@ -1,8 +1,7 @@
 -- `pairs::rise` meets its contract.
-use Rattle.std.proofs.Common.{rules, tests, ◌*◌, ◌-◌, ◌/◌, length, refl, ◌∙◌}
+use Rattle.std.proofs.Common.{◌-◌, ◌*◌, ◌/◌, ltb, length, refl, ◌∙◌, rules, tests}
 use Rattle.std.proofs.lemmas.Iterator.{YieldsList-from_range}
 use Rattle.std.proofs.lemmas.Iterator.Search.{all_from_yields_List}
-use lib.Dec.{ltb}
 use Rattle.model.specs.Table.{at}
 use Rattle.pairs.proofs.Slices.{listed-rising}
 use Rattle.pairs.proofs.rise.Goals as goal

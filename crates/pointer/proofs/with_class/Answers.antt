@@ -1,6 +1,5 @@
 -- `pointer::with_class` meets its contract.
-use mathlib.Core.Path.{ap, ◌∙◌}
-use Prim.Native.Nat.{ℕ}
+use Rattle.std.proofs.Common.{ℕ, ap, ◌∙◌}
 use Rattle.model.specs.Slots.{pointer_of}
 use Rattle.pointer.proofs.Tests.{is-below}
 use Rattle.pointer.proofs.with_class.Goals as goal

@@ -1,10 +1,5 @@
 -- `printer::read_piece` meets its contract.
-use mathlib.Core.Path.{refl, sym, ◌∙◌}
-use Prim.Native.Nat.{◌-◌}
-use native.Mathlib.Omega.{arith}
-use lib.ListN.{length, drop, length-drop}
-use lib.Seq.{take_all}
-use borrow.Author.Tests.{eqb-true}
+use Rattle.std.proofs.Common.{◌-◌, length, drop, sym, refl, ◌∙◌, arith, length-drop, take_all, eqb-true}
 use Rattle.script.proofs.Spoken.{same-start, same-line, same-end, slices-then}
 use Rattle.printer.proofs.read_piece.Goals as goal
 

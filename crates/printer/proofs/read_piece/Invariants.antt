@@ -1,4 +1,5 @@
--- `printer::read_piece` meets its contract. The loop's invariant: what is left of the piece, read from the present state, ends as the whole.
+-- `printer::read_piece` meets its contract. The loop's invariant: what is left of the piece, read from the present state, ends as the
+-- whole.
 use lib.ListN.{length}
 use Rattle.script_bytes.specs.Input.{read_bytes, print_on}
 use Rattle.script.specs.Spoken.{silent}

@@ -1,7 +1,5 @@
 -- `quick::begin` meets its contract.
-use mathlib.Core.Path.{ap, sym, ◌∙◌}
-use native.Mathlib.Omega.{arith}
-use lib.ListN.{take}
+use Rattle.std.proofs.Common.{take, sym, ap, ◌∙◌, arith}
 use Rattle.model.specs.Results.{answer_number}
 use Rattle.list_laws.proofs.Tools.{handed-on}
 use Rattle.table_laws.proofs.Header.{header-iff}
@@ -21,7 +19,8 @@ summary_words-requires c = few c.args.collection c.args.summary.now c.args.table
 
 pub returns-then-summary-summary_words-clause-number : goal.returns-then-summary-summary_words-clause-number
 returns-then-summary-summary_words-clause-number c =
-    other-length _ _ _ _ (sym c.find_root.ensures ∙ c.in_ok-root.was) (λ e. c.if-summary-summary_words.true (e ∙ sym c.summary_words.ensures))
+    other-length _ _ _ _ (sym c.find_root.ensures ∙ c.in_ok-root.was)
+    (λ e. c.if-summary-summary_words.true (e ∙ sym c.summary_words.ensures))
 
 pub find-requires-clause-table_value : goal.find-requires-clause-table_value
 find-requires-clause-table_value c = (found-there _ _ (sym c.find_root.ensures ∙ c.in_ok-root.was)).0
@@ -33,8 +32,10 @@ find-requires-clause-table_bound c =
 pub returns-clause-number : goal.returns-clause-number
 returns-clause-number c =
     ap answer_number c.ok_or.ensures.value
-    ∙ found-number _ _ _ _ (sym c.find_root.ensures ∙ c.in_ok-root.was) (c.if-summary-summary_words.false ∙ c.summary_words.ensures) _ (ap (λ m. take m c.args.summary.now) c.mark_words.ensures) c.find.ensures
+    ∙ found-number _ _ _ _ (sym c.find_root.ensures ∙ c.in_ok-root.was) (c.if-summary-summary_words.false ∙ c.summary_words.ensures) _
+    (ap (λ m. take m c.args.summary.now) c.mark_words.ensures) c.find.ensures
 
 pub returns-clause-way : goal.returns-clause-way
 returns-clause-way c w e =
-    found-way _ _ _ _ (sym c.find_root.ensures ∙ c.in_ok-root.was) (c.if-summary-summary_words.false ∙ c.summary_words.ensures) _ (ap (λ m. take m c.args.summary.now) c.mark_words.ensures) c.find.ensures (sym c.ok_or.ensures.value ∙ e)
+    found-way _ _ _ _ (sym c.find_root.ensures ∙ c.in_ok-root.was) (c.if-summary-summary_words.false ∙ c.summary_words.ensures) _
+    (ap (λ m. take m c.args.summary.now) c.mark_words.ensures) c.find.ensures (sym c.ok_or.ensures.value ∙ e)

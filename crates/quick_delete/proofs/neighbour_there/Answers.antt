@@ -13,8 +13,10 @@ returns-then-at-count c =
     let z = c.requires.p_value in
     let f = c.word.ensures in
     let a = c.place-at.ensures.value in
-    slot-there _ _ _ _ q z _ _ f a _ c.count.ensures.value c.if-at-count.true _ _ (c.pointer_before-neighbour.ensures.last (at-in _ _ _ _ q z _ _ f a)) c.in_range.ensures
+    slot-there _ _ _ _ q z _ _ f a _ c.count.ensures.value c.if-at-count.true _ _
+    (c.pointer_before-neighbour.ensures.last (at-in _ _ _ _ q z _ _ f a)) c.in_range.ensures
 
 pub returns-else-at-count : goal.returns-else-at-count
 returns-else-at-count c =
-    slot-missing _ _ _ _ c.read-parent.ensures c.requires.p_value _ _ c.word.ensures c.place-at.ensures.value _ c.count.ensures.value c.if-at-count.false
+    slot-missing _ _ _ _ c.read-parent.ensures c.requires.p_value _ _ c.word.ensures c.place-at.ensures.value _
+    c.count.ensures.value c.if-at-count.false

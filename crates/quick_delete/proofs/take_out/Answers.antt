@@ -9,7 +9,12 @@ pub free_leaf-requires : goal.free_leaf-requires
 free_leaf-requires c =
     let z = c.if-found.true in
     let f = free-there _ c.requires.takes c.requires.room z c.shift_out.ensures in
-    record { p_value = f.parent; p_value_2 = f.plain; x_value = f.neighbour; room = free-room _ c.requires.takes c.requires.room z c.shift_out.ensures }
+    record {
+      p_value = f.parent;
+      p_value_2 = f.plain;
+      x_value = f.neighbour;
+      room = free-room _ c.requires.takes c.requires.room z c.shift_out.ensures;
+    }
 
 pub returns-then-found : goal.returns-then-found
 returns-then-found c = free-stored _ c.requires.takes c.requires.room c.if-found.true c.shift_out.ensures c.free_leaf.ensures

@@ -1,9 +1,9 @@
 -- `quick_insert::enter` meets its contract.
-use mathlib.Core.Path.{sym, ◌∙◌}
-use native.Mathlib.Omega.{arith}
+use Rattle.std.proofs.Common.{sym, ◌∙◌, arith}
 use Rattle.way.proofs.Walking.{along-low}
 use Rattle.quick_insert.proofs.Testing.{along-size, along-few}
-use Rattle.quick_insert.proofs.Entering.{grow-room, run-is, grown-size, run-room, made-marks, taker-there, taker-plain, last-room, all-made, none-made}
+use Rattle.quick_insert.proofs.Entering.{grow-room, run-is, grown-size, run-room, made-marks, taker-there, taker-plain, last-room, all-made}
+use Rattle.quick_insert.proofs.Entering.{none-made}
 use Rattle.quick_insert.proofs.enter.Goals as goal
 
 pub bounds-table-2 : goal.bounds-table-2
@@ -61,7 +61,8 @@ returns-then-roomy c =
     let e = run-is x f q.along q.room in
     let ok = rw (c.table.ensures, c.table-2.ensures) at (sym c.roomy.ensures ∙ c.if-roomy.true) in
     record {
-      stores = all-made x f q.along q.room g.stores g.marks_after g.under_value e s.stores s.marks_after s.under_value ok c.shift_in.ensures;
+      stores = all-made x f q.along q.room g.stores g.marks_after g.under_value e s.stores s.marks_after
+          s.under_value ok c.shift_in.ensures;
       marks_after = made-marks x f q.along q.room g.stores g.marks_after g.under_value e s.stores s.marks_after s.under_value;
     }
 

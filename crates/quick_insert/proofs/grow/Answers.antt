@@ -1,7 +1,5 @@
 -- `quick_insert::grow` meets its contract.
-use mathlib.Core.Path.{◌≡◌, sym, ◌∙◌}
-use mathlib.Core.Bool.{Bool}
-use native.Mathlib.Omega.{arith}
+use Rattle.std.proofs.Common.{◌≡◌, Bool, sym, ◌∙◌, arith}
 use Rattle.model.specs.Table.{in_range, nodes}
 use Rattle.tree_laws.proofs.Rows.{range-iff}
 use Rattle.way.proofs.Walking.{along-low}
@@ -11,7 +9,8 @@ use Rattle.quick_insert.proofs.grow.Goals.{After-in_range}
 use Rattle.quick_insert.proofs.grow.Goals as goal
 
 -- whether the node that was found is one of the table's
-ranged : (c : After-in_range) {b : Bool} → c.in_range.result ≡ b → in_range (nodes c.args.writer.now.table.now) c.free_after-fresh.result ≡ b
+ranged : (c : After-in_range) {b : Bool} → c.in_range.result ≡ b
+    → in_range (nodes c.args.writer.now.table.now) c.free_after-fresh.result ≡ b
 ranged c e = rw c.table-table.ensures at (sym c.in_range.ensures ∙ e)
 
 pub on_level-above-requires : goal.on_level-above-requires
@@ -42,7 +41,8 @@ free_after-fresh-requires-clause-a_le_nodes c =
 pub returns-then-not-in_range : goal.returns-then-not-in_range
 returns-then-not-in_range c =
     let t = c.table-table.ensures in
-    let s = start-lost c.requires.along c.on_level-above.ensures (sym c.takes_root.ensures ∙ c.if-not-takes_root.false) (rw t at c.root_of.ensures) (rw t at c.free_after-fresh.ensures)
+    let s = start-lost c.requires.along c.on_level-above.ensures (sym c.takes_root.ensures ∙ c.if-not-takes_root.false)
+    (rw t at c.root_of.ensures) (rw t at c.free_after-fresh.ensures)
     (ranged (goal.at.returns-then-not-in_range c).After-in_range c.if-not-in_range.true) in
     record { stores = s.stores; marks_after = s.marks; under_value = s.under }
 
@@ -61,7 +61,8 @@ new_root-requires c =
       word_bound = omega (arith, (number-few a).1);
       r_value = in-table a _ r;
       word_bound_2 = root-low a;
-      room = root-room a c.on_level-above.ensures (sym c.takes_root.ensures ∙ c.if-not-takes_root.false) (rw t at c.root_of.ensures) (rw t at c.free_after-fresh.ensures) r c.args.writer.now c.requires.room;
+      room = root-room a c.on_level-above.ensures (sym c.takes_root.ensures ∙ c.if-not-takes_root.false) (rw t at c.root_of.ensures)
+          (rw t at c.free_after-fresh.ensures) r c.args.writer.now c.requires.room;
     }
 
 pub put-requires : goal.put-requires
@@ -72,6 +73,7 @@ put-requires c =
 pub returns : goal.returns
 returns c =
     let t = c.table-table.ensures in
-    let s = start-grown c.requires.along c.on_level-above.ensures (sym c.takes_root.ensures ∙ c.if-not-takes_root.false) (rw t at c.root_of.ensures) (rw t at c.free_after-fresh.ensures)
+    let s = start-grown c.requires.along c.on_level-above.ensures (sym c.takes_root.ensures ∙ c.if-not-takes_root.false)
+    (rw t at c.root_of.ensures) (rw t at c.free_after-fresh.ensures)
     (ranged (goal.at.returns c).After-in_range c.if-not-in_range.false) c.new_root.ensures c.put.ensures in
     record { stores = s.stores; marks_after = s.marks; under_value = s.under }

@@ -1,13 +1,8 @@
 -- `quick_insert::split_run` meets its contract. The loop keeps what is left of the run (`Left`).
-use mathlib.Core.Path.{refl, ap, sym, ◌∙◌}
-use mathlib.Core.Bool.{cond}
-use native.Mathlib.Omega.{arith}
-use Prim.Native.Nat.{ℕ}
-use mathlib.Core.List.{[]}
-use lib.ListN.{get_or}
-use lib.Dec.{ltb}
+use Rattle.std.proofs.Common.{ℕ, cond, ltb, [], get_or, sym, refl, ap, ◌∙◌, arith}
 use Rattle.orders.proofs.Rest.{rest-size}
-use Rattle.quick_insert.proofs.Splitting.{left-start, left-as, left-end, left-stop, left-room, left-next, left-at, rest-past, splits-of, middle-word, split-unfull, full-range, upper-range}
+use Rattle.quick_insert.proofs.Splitting.{left-start, left-as, left-end, left-stop, left-room, left-next, left-at, rest-past, splits-of}
+use Rattle.quick_insert.proofs.Splitting.{middle-word, split-unfull, full-range, upper-range}
 use Rattle.quick_insert.proofs.split_run.Goals as goal
 
 pub loop-a-init : goal.loop-a-init
@@ -51,7 +46,13 @@ split-requires c =
 pub put-requires : goal.put-requires
 put-requires c =
     let l = c.loop-a in
-    omega (arith, upper-range c.args.nodes _ (get_or c.args.run.now l.a-index 0) c.free_after-b.result l.p (sym c.can_split.ensures ∙ c.if-not-can_split.false), c.requires.nodes_bound_2, l.auto.marks)
+    omega (
+      arith,
+      upper-range c.args.nodes _ (get_or c.args.run.now l.a-index 0) c.free_after-b.result l.p
+          (sym c.can_split.ensures ∙ c.if-not-can_split.false),
+      c.requires.nodes_bound_2,
+      l.auto.marks,
+    )
 
 pub loop-a-preserved : goal.loop-a-preserved
 loop-a-preserved c =

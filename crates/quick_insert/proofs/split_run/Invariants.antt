@@ -10,5 +10,6 @@ invariant-loop-a l =
     let was = l.initial in
     let g = split_way l.nodes l.key l.run (going [] was.writer.table.now was.marks l.under) in
     record {
-      left : Left l.nodes l.key (drop l.a-index l.run) was.writer l.writer l.marks l.p (stored_all g.stores (of was.writer)) g.marks g.under;
+      left : Left l.nodes l.key (drop l.a-index l.run) was.writer l.writer l.marks l.p
+          (stored_all g.stores (of was.writer)) g.marks g.under;
     }

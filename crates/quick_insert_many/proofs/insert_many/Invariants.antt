@@ -1,7 +1,5 @@
 -- `quick_insert_many::insert_many` meets its contract. The loop keeps that from here the batch comes to what it comes to from the start.
-use mathlib.Core.Path.{◌≡◌}
-use Prim.Native.Nat.{◌/◌, ◌≤◌}
-use lib.ListN.{length}
+use Rattle.std.proofs.Common.{◌≡◌, ◌/◌, ◌≤◌, length}
 use Rattle.model.specs.Slots.{slots_of}
 use Rattle.model.specs.QuickBatch.{quick_batch}
 use Rattle.quick_insert_many.specs.Going.{filled, ahead}

@@ -16,5 +16,6 @@ on_level-first-requires c = along-low (c.begin.ensures.way _ c.in_ok-way.was)
 
 pub returns : goal.returns
 returns c =
-    let both = done _ _ _ _ _ _ _ _ _ _ (ap answer_number (sym c.in_ok-way.was) ∙ c.begin.ensures.number) (c.begin.ensures.way _ c.in_ok-way.was) c.on_level-first.ensures c.list_from.ensures in
+    let both = done _ _ _ _ _ _ _ _ _ _ (ap answer_number (sym c.in_ok-way.was) ∙ c.begin.ensures.number)
+    (c.begin.ensures.way _ c.in_ok-way.was) c.on_level-first.ensures c.list_from.ensures in
     record { value = both.0; out_after = both.1 }

@@ -1,4 +1,5 @@
--- `reach::first_unreached` meets its contract. The loop's invariant: the first from n on is the first of all, what is marked is reached, and
+-- `reach::first_unreached` meets its contract. The loop's invariant: the first from n on is the first of all, what is marked is reached,
+-- and
 -- the nodes left to look at bring the marks to what all bring them to.
 use Rattle.std.proofs.Common.{◌≡◌, ◌≤◌}
 use Rattle.reach.specs.Marks.{Marked}

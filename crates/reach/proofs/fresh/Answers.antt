@@ -1,6 +1,5 @@
 -- `reach::fresh` meets its contract.
-use mathlib.Core.Path.{sym, ◌∙◌}
-use native.Mathlib.Omega.{arith}
+use Rattle.std.proofs.Common.{sym, ◌∙◌, arith}
 use Rattle.reach.proofs.Members.{sound-words}
 use Rattle.reach.proofs.Unreached.{first-here, fresh-after}
 use Rattle.reach.proofs.Passing.{fresh-next, fresh-last, fresh-taken}

@@ -19,7 +19,8 @@ returns-then-n-ne0-clause-value c = fresh-after _ _ _ c.first_unreached-n.ensure
 
 pub returns-then-n-ne0-clause-marks_after : goal.returns-then-n-ne0-clause-marks_after
 returns-then-n-ne0-clause-marks_after c =
-    round-found _ _ _ _ _ c.mark_once.ensures.marks_after c.first_unreached-n.ensures.marks_after _ c.first_unreached-n.ensures.value c.if-n-ne0.true
+    round-found _ _ _ _ _ c.mark_once.ensures.marks_after c.first_unreached-n.ensures.marks_after _
+    c.first_unreached-n.ensures.value c.if-n-ne0.true
 
 pub first_unreached-requires-clause-last_bound : goal.first_unreached-requires-clause-last_bound
 first_unreached-requires-clause-last_bound c = omega (arith, sound-few _ c.requires.table_value)
@@ -30,5 +31,6 @@ returns-clause-value c =
 
 pub returns-clause-marks_after : goal.returns-clause-marks_after
 returns-clause-marks_after c =
-    round-on _ _ _ _ _ c.mark_once.ensures.marks_after c.first_unreached-n.ensures.marks_after _ c.first_unreached-n.ensures.value c.if-n-ne0.false _
+    round-on _ _ _ _ _ c.mark_once.ensures.marks_after c.first_unreached-n.ensures.marks_after _
+    c.first_unreached-n.ensures.value c.if-n-ne0.false _
     (rw c.saturating_sub.ensures at c.first_unreached.ensures.marks_after)

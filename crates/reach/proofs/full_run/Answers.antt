@@ -25,4 +25,5 @@ loop-preserved c = let a = c.args in
 
 pub returns : goal.returns
 returns c = run-read _ _ _ _ _ _ c.word-top.ensures
-    (run-last _ _ _ _ _ _ _ c.moved-leaf.ensures (c.run_after-length.ensures ∙ ap (counted c.loop.count) c.is_full-2.ensures) _ (omega arith) ∙ c.loop.invariant.rest)
+    (run-last _ _ _ _ _ _ _ c.moved-leaf.ensures (c.run_after-length.ensures ∙ ap (counted c.loop.count) c.is_full-2.ensures) _
+    (omega arith) ∙ c.loop.invariant.rest)

@@ -1,7 +1,5 @@
 -- `reach::is_taken` meets its contract, by the tests that led to each return.
-use mathlib.Core.Path.{◌∙◌}
-use native.Mathlib.Omega.{arith}
-use borrow.Author.Tests.{eq-eqb}
+use Rattle.std.proofs.Common.{◌∙◌, arith, eq-eqb}
 use Rattle.two_laws.proofs.SameTwo.{first-there, second-there}
 use Rattle.two_laws.proofs.CollectionTwo.{collection-sound}
 use Rattle.reach.proofs.Members.{sound-words, taken-first, taken-alone, taken-second}
@@ -23,7 +21,9 @@ pub returns-then-is_reached : goal.returns-then-is_reached
 returns-then-is_reached c = c.if-is_reached.true ∙ taken-first _ _ _ c.is_reached.ensures c.if-is_reached.true
 
 pub returns-then-second-ne0 : goal.returns-then-second-ne0
-returns-then-second-ne0 c = taken-second _ _ _ c.is_reached.ensures c.if-is_reached.false c.if-second-ne0.true _ c.is_reached-then-second-ne0.ensures
+returns-then-second-ne0 c =
+    taken-second _ _ _ c.is_reached.ensures c.if-is_reached.false c.if-second-ne0.true _ c.is_reached-then-second-ne0.ensures
 
 pub returns-else-second-ne0 : goal.returns-else-second-ne0
-returns-else-second-ne0 c = rw (eq-eqb _ _ c.if-second-ne0.false) (taken-alone _ _ _ c.is_reached.ensures c.if-is_reached.false c.if-second-ne0.false)
+returns-else-second-ne0 c =
+    rw (eq-eqb _ _ c.if-second-ne0.false) (taken-alone _ _ _ c.is_reached.ensures c.if-is_reached.false c.if-second-ne0.false)

@@ -11,4 +11,5 @@ pub bounds-table-3 : goal.bounds-table-3
 bounds-table-3 c = omega (arith, sound-words _ c.requires)
 
 pub returns : goal.returns
-returns c = all-marked _ c.requires _ _ c.first_parent-first.ensures c.first_parent-second.ensures _ _ _ c.mark_along.ensures c.mark_along-2.ensures
+returns c = all-marked _ c.requires _ _ c.first_parent-first.ensures c.first_parent-second.ensures _ _ _
+    c.mark_along.ensures c.mark_along-2.ensures

@@ -1,9 +1,7 @@
 -- `reach::mark_once` meets its contract.
-use mathlib.Core.Path.{sym, ◌∙◌}
-use native.Mathlib.Omega.{arith}
+use Rattle.std.proofs.Common.{sym, ◌∙◌, arith, rules}
 use Rattle.reach.proofs.Members.{sound-words, root-few}
 use Rattle.reach.proofs.Passing.{once-known, once-new, once-taken}
-use borrow.Author.Rules.{rules}
 use Rattle.reach.proofs.mark_once.Goals as goal
 
 pub bounds-table-1 : goal.bounds-table-1

@@ -6,4 +6,5 @@ use Rattle.reach.proofs.Descent.{node_on}
 use Rattle.reach.proofs.standing.Given as goal
 
 abbrev pub invariant-loop : goal.invariant-loop
-invariant-loop l = node_on (view l.table) (l.top + l.level - l.counter) l.n l.key l.level ≡ standing_in (view_from l.table l.root) l.level l.key
+invariant-loop l = node_on (view l.table) (l.top + l.level - l.counter) l.n l.key l.level
+    ≡ standing_in (view_from l.table l.root) l.level l.key

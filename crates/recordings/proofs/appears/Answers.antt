@@ -18,5 +18,6 @@ any-requires-clause-callable c = serves_from_Range (λ x q k. search rules) (λ 
 pub returns : goal.returns
 returns c = let a = c.args in
     any_from_yields_List (λ n. elem a.recording (map recording (own (view a.table.now) a.marks.now n))) _ _ c.any.result c.any.ensures.ran
-    (YieldsList-from_range a.first (c.word_at-last.result + 1) _ refl (ap (λ (l : ℕ). l + 1 - a.first) c.word_at-last.ensures)) (λ x b q k. search (rules, tests))
+    (YieldsList-from_range a.first (c.word_at-last.result + 1) _ refl (ap (λ (l : ℕ). l + 1 - a.first) c.word_at-last.ensures))
+    (λ x b q k. search (rules, tests))
     ∙ found-rows _ _ _ _ _

@@ -19,6 +19,9 @@ all-requires-clause-callable c = serves_from_Range (λ x q k. search rules) (λ 
 pub returns : goal.returns
 returns c = let a = c.args in
     let N = nodes a.table.now in
-    all_from_yields_List (λ n. once_before (map recording (own (view a.table.now) a.marks.now n)) (own_numbers (view a.table.now) a.marks.now (n + 1) (N + 1 - (n + 1))))
-    _ _ c.all.result c.all.ensures.ran (YieldsList-from_range 1 (c.word_at-last.result + 1) N refl (omega (arith, c.word_at-last.ensures))) (λ x b q k. search (rules, tests))
+    all_from_yields_List
+    (λ n. once_before (map recording (own (view a.table.now) a.marks.now n))
+    (own_numbers (view a.table.now) a.marks.now (n + 1) (N + 1 - (n + 1))))
+    _ _ c.all.result c.all.ensures.ran (YieldsList-from_range 1 (c.word_at-last.result + 1) N refl (omega (arith, c.word_at-last.ensures)))
+    (λ x b q k. search (rules, tests))
     ∙ once-rows _ _ N N 1 (omega arith) ∙ (unfold marked_pairs in refl)

@@ -22,18 +22,22 @@ returns-then-p-eq0 c = let a = c.args in let l = c.loop-i in
 
 pub returns-in_err-enter_number : goal.returns-in_err-enter_number
 returns-in_err-enter_number c = let a = c.args in let l = c.loop-i in
-    rw (handed-on c.from_residual.ensures.1) (scan-more (comes a.round a.twice.now a.x l.before l.cells) _ l.i l.invariant (omega arith) c.if-p-eq0.false
-    (enter-ends _ _ _ _ _ _ _ c.is_way.ensures c.if-is_way.true _ _ _ _ _ c.recording.ensures c.enter_number.ensures _ c.in_err-enter_number.was))
+    rw (handed-on c.from_residual.ensures.1)
+    (scan-more (comes a.round a.twice.now a.x l.before l.cells) _ l.i l.invariant (omega arith) c.if-p-eq0.false
+    (enter-ends _ _ _ _ _ _ _ c.is_way.ensures c.if-is_way.true _ _ _ _ _ c.recording.ensures c.enter_number.ensures _
+    c.in_err-enter_number.was))
 
 pub loop-i-preserved : goal.loop-i-preserved
 loop-i-preserved c = let a = c.args in let l = c.loop-i in
     let F = comes a.round a.twice.now a.x l.before l.cells in
     elim c.if-is_way.branch [
       | then-is_way+in_ok-enter_number w ↦ scan-more F _ l.i l.invariant (omega arith) c.if-p-eq0.false
-          (rw w.cells-is (enter-goes _ _ _ _ _ _ _ c.is_way.ensures w.if-is_way.true _ _ _ _ _ w.recording.ensures w.enter_number.ensures w.in_ok-enter_number.was))
+          (rw w.cells-is (enter-goes _ _ _ _ _ _ _ c.is_way.ensures w.if-is_way.true _ _ _ _ _ w.recording.ensures w.enter_number.ensures
+          w.in_ok-enter_number.was))
       | else-is_way w ↦ scan-more F _ l.i l.invariant (omega arith) c.if-p-eq0.false
           (rw w.cells-is
-          (slot-passed _ _ _ _ _ _ _ c.is_way.ensures (λ (ss : List Slot). entered_all (suspect a.round a.twice.now) (map recording ss) l.cells) w.if-is_way.false))
+          (slot-passed _ _ _ _ _ _ _ c.is_way.ensures
+          (λ (ss : List Slot). entered_all (suspect a.round a.twice.now) (map recording ss) l.cells) w.if-is_way.false))
     ]
 
 pub returns : goal.returns

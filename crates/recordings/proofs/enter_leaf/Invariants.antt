@@ -9,5 +9,6 @@ use Rattle.recordings.proofs.enter_leaf.Given as goal
 
 abbrev pub invariant-loop-i : goal.invariant-loop-i
 invariant-loop-i l =
-    entered_all (suspect l.round l.twice) (map recording (kept_of l.x.node.sibling l.x.bound (shown_from l.before l.x.node.slots l.i))) l.cells
+    entered_all (suspect l.round l.twice)
+    (map recording (kept_of l.x.node.sibling l.x.bound (shown_from l.before l.x.node.slots l.i))) l.cells
     ≡ entered_all (suspect l.round l.twice) (map recording (kept_in l.x)) l.initial.cells

@@ -22,31 +22,36 @@ is_leaf-requires c = few-marked _ _ _ _ c.requires c.last_marked-last.ensures (o
 pub returns-in_err-enter_leaf : goal.returns-in_err-enter_leaf
 returns-in_err-enter_leaf c = let a = c.args in let l = c.loop-n in
     rw (handed-on c.from_residual.ensures.1) (row-more (comes a.round a.twice.now l.cells) _ _ l.n _ l.invariant (omega arith)
-    (enter-last _ _ _ l.cells _ _ (c.enter_leaf.ensures ∙ ap (comes a.round a.twice.now l.cells) c.read_leaf-x.ensures) _ c.in_err-enter_leaf.was))
+    (enter-last _ _ _ l.cells _ _ (c.enter_leaf.ensures ∙ ap (comes a.round a.twice.now l.cells) c.read_leaf-x.ensures) _
+    c.in_err-enter_leaf.was))
 
 pub read_leaf-x-requires : goal.read_leaf-x-requires
 read_leaf-x-requires c = sym c.is_leaf.ensures ∙ c.if-not-is_leaf.false
 
 pub loop-n-preserved-then-not-is_leaf : goal.loop-n-preserved-then-not-is_leaf
 loop-n-preserved-then-not-is_leaf c = let a = c.args in let l = c.loop-n in
-    row-skip (comes a.round a.twice.now l.cells) _ _ l.n _ l.invariant (omega arith) (none-own _ _ _ _ c.is_leaf.ensures c.if-not-is_leaf.true)
+    row-skip (comes a.round a.twice.now l.cells) _ _ l.n _ l.invariant (omega arith)
+    (none-own _ _ _ _ c.is_leaf.ensures c.if-not-is_leaf.true)
 
 pub loop-n-preserved : goal.loop-n-preserved
 loop-n-preserved c = let a = c.args in let l = c.loop-n in
     row-more (comes a.round a.twice.now l.cells) _ _ l.n _ l.invariant (omega arith)
-    (enter-next _ _ _ l.cells _ _ (c.enter_leaf.ensures ∙ ap (comes a.round a.twice.now l.cells) c.read_leaf-x.ensures) c.in_ok-enter_leaf.was)
+    (enter-next _ _ _ l.cells _ _
+    (c.enter_leaf.ensures ∙ ap (comes a.round a.twice.now l.cells) c.read_leaf-x.ensures) c.in_ok-enter_leaf.was)
 
 -- the last node
 pub returns-then-not-is_leaf : goal.returns-then-not-is_leaf
 returns-then-not-is_leaf c = let a = c.args in let l = c.loop-n in
     let F = comes a.round a.twice.now l.cells in
-    enter-none _ _ ∙ row-end F _ _ (l.n + 1) _ (row-skip F _ _ l.n _ l.invariant (omega arith) (none-own _ _ _ _ c.is_leaf.ensures c.if-not-is_leaf.true)) (omega arith)
+    enter-none _ _ ∙ row-end F _ _ (l.n + 1) _
+    (row-skip F _ _ l.n _ l.invariant (omega arith) (none-own _ _ _ _ c.is_leaf.ensures c.if-not-is_leaf.true)) (omega arith)
 
 pub returns-in_ok-enter_leaf : goal.returns-in_ok-enter_leaf
 returns-in_ok-enter_leaf c = let a = c.args in let l = c.loop-n in
     let F = comes a.round a.twice.now l.cells in
     let e = enter-next _ _ _ l.cells _ _ (c.enter_leaf.ensures ∙ ap F c.read_leaf-x.ensures) c.in_ok-enter_leaf.was in
-    enter-none _ _ ∙ row-end (comes a.round a.twice.now c.enter_leaf.new.cells) _ _ (l.n + 1) _ (row-more F _ _ l.n _ l.invariant (omega arith) e) (omega arith)
+    enter-none _ _ ∙ row-end (comes a.round a.twice.now c.enter_leaf.new.cells) _ _ (l.n + 1) _
+    (row-more F _ _ l.n _ l.invariant (omega arith) e) (omega arith)
 
 pub returns : goal.returns
 returns c = let a = c.args in let l = c.loop-n in

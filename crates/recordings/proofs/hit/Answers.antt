@@ -1,9 +1,8 @@
 -- `recordings::hit` meets its contract.
 use Rattle.recordings.specs.Rounds.{hits}
-use mathlib.Core.Bool.{true, false}
+use Rattle.std.proofs.Common.{true, false, sym, ap, ◌∙◌}
 use Rattle.model.specs.Table.{Words}
 use Rattle.recordings.proofs.RoundLaws.{hit-first, hit-later}
-use mathlib.Core.Path.{sym, ap, ◌∙◌}
 use Rattle.recordings.proofs.hit.Goals as goal
 
 pub returns-then-has : goal.returns-then-has

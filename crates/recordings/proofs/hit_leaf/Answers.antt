@@ -13,7 +13,8 @@ use Rattle.recordings.proofs.hit_leaf.Goals.{then-is_way, else-is_way}
 
 -- what slots come to, with this pointer before them, from the places hit so far
 abbrev comes : (round : ℕ) (olds : Words) → Leaf → (before : ℕ) → Hits → List Slot → Hits
-comes round olds x before h ss = hit_all (suspect round olds) (place_of round) (map recording (kept_of x.node.sibling x.bound (shown before ss))) h
+comes round olds x before h ss =
+    hit_all (suspect round olds) (place_of round) (map recording (kept_of x.node.sibling x.bound (shown before ss))) h
 
 pub returns-then-p-eq0 : goal.returns-then-p-eq0
 returns-then-p-eq0 c = let a = c.args in let l = c.loop-i in
@@ -26,10 +27,13 @@ loop-i-preserved c = let a = c.args in let l = c.loop-i in
     let F = comes a.round a.olds.now a.x l.before h in
     elim c.if-is_way.branch [
       | then-is_way w ↦ scan-more F _ l.i l.invariant (omega arith) c.if-p-eq0.false
-          (rw (w.once-is, w.twice-is, w.crowded-is) (hit-more _ _ _ _ _ _ _ c.is_way.ensures w.if-is_way.true _ _ _ _ _ w.recording.ensures (if-joined _ _ l.once l.twice l.crowded _ _ _ _ w.hit_number-crowded.ensures)))
+          (rw (w.once-is, w.twice-is, w.crowded-is)
+          (hit-more _ _ _ _ _ _ _ c.is_way.ensures w.if-is_way.true _ _ _ _ _ w.recording.ensures
+          (if-joined _ _ l.once l.twice l.crowded _ _ _ _ w.hit_number-crowded.ensures)))
       | else-is_way w ↦ scan-more F _ l.i l.invariant (omega arith) c.if-p-eq0.false
           (rw (w.once-is, w.twice-is, w.crowded-is)
-          (slot-passed _ _ _ _ _ _ _ c.is_way.ensures (λ (ss : List Slot). hit_all (suspect a.round a.olds.now) (place_of a.round) (map recording ss) h) w.if-is_way.false))
+          (slot-passed _ _ _ _ _ _ _ c.is_way.ensures
+          (λ (ss : List Slot). hit_all (suspect a.round a.olds.now) (place_of a.round) (map recording ss) h) w.if-is_way.false))
     ]
 
 pub returns : goal.returns

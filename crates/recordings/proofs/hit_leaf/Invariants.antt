@@ -8,5 +8,6 @@ use Rattle.recordings.proofs.hit_leaf.Given as goal
 
 abbrev pub invariant-loop-i : goal.invariant-loop-i
 invariant-loop-i l =
-    hit_all (suspect l.round l.olds) (place_of l.round) (map recording (kept_of l.x.node.sibling l.x.bound (shown_from l.before l.x.node.slots l.i))) (hits l.once l.twice l.crowded)
+    hit_all (suspect l.round l.olds) (place_of l.round)
+    (map recording (kept_of l.x.node.sibling l.x.bound (shown_from l.before l.x.node.slots l.i))) (hits l.once l.twice l.crowded)
     ≡ hit_all (suspect l.round l.olds) (place_of l.round) (map recording (kept_in l.x)) (hits l.initial.once l.initial.twice false)

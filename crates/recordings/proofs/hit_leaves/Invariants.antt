@@ -7,5 +7,7 @@ use Rattle.recordings.proofs.hit_leaves.Given as goal
 
 abbrev pub invariant-loop-n : goal.invariant-loop-n
 invariant-loop-n l =
-    hit_all (suspect l.round l.olds) (place_of l.round) (map recording (own_from (view l.table) l.marks l.n (l.last + 1 - l.n))) (hits l.once l.twice l.crowded)
-    ≡ hit_all (suspect l.round l.olds) (place_of l.round) (map recording (marked_pairs (view l.table) l.marks)) (hits l.initial.once l.initial.twice false)
+    hit_all (suspect l.round l.olds) (place_of l.round) (map recording (own_from (view l.table) l.marks l.n (l.last + 1 - l.n)))
+    (hits l.once l.twice l.crowded)
+    ≡ hit_all (suspect l.round l.olds) (place_of l.round) (map recording (marked_pairs (view l.table) l.marks))
+    (hits l.initial.once l.initial.twice false)

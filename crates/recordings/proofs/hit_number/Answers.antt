@@ -7,7 +7,8 @@ use Rattle.recordings.proofs.hit_number.Goals as goal
 pub returns-else-is_suspect : goal.returns-else-is_suspect
 returns-else-is_suspect c = let a = c.args in
     ap (λ (b : Bool). hits a.once.now a.twice.now b) c.if-is_suspect.false
-    ∙ sym (if-no (suspect a.round a.olds.now) (place_of a.round) _ (hits a.once.now a.twice.now false) (sym c.is_suspect.ensures ∙ c.if-is_suspect.false))
+    ∙ sym (if-no (suspect a.round a.olds.now) (place_of a.round) _ (hits a.once.now a.twice.now false)
+    (sym c.is_suspect.ensures ∙ c.if-is_suspect.false))
 
 pub returns-then-is_suspect : goal.returns-then-is_suspect
 returns-then-is_suspect c = let a = c.args in

@@ -1,6 +1,5 @@
 -- `recordings::is_suspect` meets its contract.
-use Rattle.std.proofs.Common.{◌∙◌}
-use borrow.Author.Tests.{eq-eqb}
+use Rattle.std.proofs.Common.{◌∙◌, eq-eqb}
 use Rattle.recordings.proofs.RoundLaws.{suspect-first, suspect-later}
 use Rattle.recordings.proofs.is_suspect.Goals as goal
 

@@ -14,7 +14,8 @@ abbrev comes : Leaf → (before : ℕ) → List Slot → Bool
 comes x before ss = all pair_ok (kept_of x.node.sibling x.bound (shown before ss))
 
 pub returns-then-p-eq0 : goal.returns-then-p-eq0
-returns-then-p-eq0 c = let l = c.loop-i in ok-none _ _ _ ∙ scan-stop (comes c.args.x l.before) _ l.i l.invariant (omega arith) c.if-p-eq0.true
+returns-then-p-eq0 c = let l =
+    c.loop-i in ok-none _ _ _ ∙ scan-stop (comes c.args.x l.before) _ l.i l.invariant (omega arith) c.if-p-eq0.true
 
 pub returns-then-not-ok : goal.returns-then-not-ok
 returns-then-not-ok c = let l = c.loop-i in

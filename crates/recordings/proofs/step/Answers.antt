@@ -18,4 +18,8 @@ returns c = let a = c.args in
     let again : c.fill-3.new.self ≡ replicate (length c.hit_leaves.new.once) 0 = search rules in
     let e = from-zero _ _ _ a.once.now a.twice.now _ _ _ c.told-once c.told-twice once twice c.hit_leaves.ensures in
     let stays = round-stays _ _ _ c.requires.stays _ e in
-    record { tells = cells-tell _ _ stays c.hit_leaves.new.once _ _ _ c.hit_leaves.array_long again c.enter_leaves.ensures; stays_2 = stays }
+    record {
+      tells = cells-tell _ _ stays c.hit_leaves.new.once _ _ _ c.hit_leaves.array_long again
+          c.enter_leaves.ensures;
+      stays_2 = stays;
+    }

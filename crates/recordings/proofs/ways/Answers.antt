@@ -5,7 +5,8 @@ use Rattle.recordings.proofs.LeafLaws.{none-own, ways-some, ways-kept}
 use Rattle.recordings.proofs.ways.Goals as goal
 
 pub returns-then-not-is_leaf : goal.returns-then-not-is_leaf
-returns-then-not-is_leaf c = record { numbers = ap (map recording) (none-own _ _ _ _ c.is_leaf.ensures c.if-not-is_leaf.true); count_low = tt }
+returns-then-not-is_leaf c =
+    record { numbers = ap (map recording) (none-own _ _ _ _ c.is_leaf.ensures c.if-not-is_leaf.true); count_low = tt }
 
 pub read_leaf-x-requires : goal.read_leaf-x-requires
 read_leaf-x-requires c = sym c.is_leaf.ensures ∙ c.if-not-is_leaf.false

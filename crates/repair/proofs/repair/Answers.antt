@@ -1,11 +1,9 @@
 -- `repair::repair` meets its contract.
-use mathlib.Core.Path.{sym, ◌∙◌}
-use mathlib.Core.List.{List, []}
+use Rattle.std.proofs.Common.{List, [], sym, ◌∙◌, rules}
 use Rattle.list_laws.proofs.Tools.{handed-on}
 use Rattle.model.specs.Table.{Words}
 use Rattle.model.specs.Orders.{Store}
 use Rattle.model.specs.Writes.{repair}
-use Rattle.std.proofs.Common.{rules}
 use Rattle.orders.specs.Desk.{desk}
 use Rattle.orders.proofs.Rest.{stored-none}
 use Rattle.write.proofs.Judging.{judged-ready, ready-accepted}
@@ -31,7 +29,11 @@ pub mend-requires : goal.mend-requires
 mend-requires c =
     let e = sym c.judge_any.ensures ∙ c.in_ok-leftover.was in
     let p = judged-ready repair _ _ _ _ e in
-    record { table_value = p.found.is-sound; table_value_2 = p.found.leftover-is; room = mend-room (begun (goal.at.mend-requires c).After-new) }
+    record {
+      table_value = p.found.is-sound;
+      table_value_2 = p.found.leftover-is;
+      room = mend-room (begun (goal.at.mend-requires c).After-new);
+    }
 
 pub finish-requires : goal.finish-requires
 finish-requires c =

@@ -1,8 +1,5 @@
 -- `salvage::fill` meets its contract.
-use mathlib.Core.Path.{◌≡◌}
-use Prim.Native.Nat.{◌-◌, ◌*◌}
-use lib.ListN.{length, take, drop}
-use borrow.Author.Rules.{rules}
+use Rattle.std.proofs.Common.{◌≡◌, ◌-◌, ◌*◌, length, take, drop, rules}
 use Rattle.salvage.proofs.Filling.{gather-ready, pack-fits, filled}
 use Rattle.salvage.proofs.fill.Goals.{After-gather-t}
 use Rattle.salvage.proofs.fill.Goals as goal
@@ -24,12 +21,14 @@ gather-t-requires c = let a = c.args in
 pub pack-root-requires : goal.pack-root-requires
 pack-root-requires c = let g = c.gather-t in
     let l = same-long (goal.at.pack-root-requires c).After-gather-t in
-    pack-fits _ _ _ _ _ _ c.requires g.new.words g.new.report g.result g.ensures.result_after g.ensures.kept_le_bound.0 g.ensures.kept_le_bound.1 l.0 l.1
+    pack-fits _ _ _ _ _ _ c.requires g.new.words g.new.report g.result g.ensures.result_after g.ensures.kept_le_bound.0
+    g.ensures.kept_le_bound.1 l.0 l.1
 
 pub returns : goal.returns
 returns c = let g = c.gather-t in
     let k = c.pack-root in
     let l = same-long (goal.at.returns c).After-gather-t in
     let both = filled _ _ _ _ _ _ c.requires
-    g.new.words g.new.report g.result g.ensures.result_after g.ensures.kept_le_bound.0 g.ensures.kept_le_bound.1 l.0 l.1 k.new.nodes k.result k.ensures.nodes_after k.ensures.value in
+    g.new.words g.new.report g.result g.ensures.result_after g.ensures.kept_le_bound.0 g.ensures.kept_le_bound.1 l.0 l.1 k.new.nodes
+    k.result k.ensures.nodes_after k.ensures.value in
     record { words_after = both.0; reported = both.1.0; dropped_bound = both.1.1 }

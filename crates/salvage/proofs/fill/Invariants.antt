@@ -1,6 +1,5 @@
 -- `salvage::fill` meets its contract: the slice of a packing has so many nodes.
-use Prim.Native.Nat.{◌/◌}
-use lib.ListN.{length}
+use Rattle.std.proofs.Common.{◌/◌, length}
 use Rattle.salvage.proofs.fill.Given as goal
 
 abbrev pub ghost-pack : goal.ghost-pack

@@ -1,9 +1,5 @@
 -- `salvage::fill_both` meets its contract.
-use mathlib.Core.Path.{◌≡◌}
-use Prim.Native.Nat.{◌*◌, ◌≤◌}
-use native.Mathlib.Omega.{arith}
-use lib.ListN.{length}
-use borrow.Author.Rules.{rules}
+use Rattle.std.proofs.Common.{◌≡◌, ◌*◌, ◌≤◌, length, arith, rules}
 use Rattle.salvage.proofs.Bounds.{words-some, one-few, few}
 use Rattle.salvage.proofs.Both.{first-ready, part-fits, alone-filled, second-ready, beside-filled}
 use Rattle.salvage.proofs.fill_both.Goals.{After-fill-f}
@@ -27,7 +23,8 @@ bounds-entered-3 c = let w = words-some _ _ _ c.args.entered.toured in omega (ar
 pub returns-then-entered-eq0 : goal.returns-then-entered-eq0
 returns-then-entered-eq0 c = let f = c.fill-f in
     let both = alone-filled _ _ _ c.args.entered.toured _ _ c.requires.0 c.requires.1 _ _ c.requires.2 c.requires.3
-    f.new.words f.new.report f.result.root f.result.dropped f.ensures.words_after.0 f.ensures.words_after.1 f.ensures.reported c.if-entered-eq0.true in record { words_after = both.0; one_value = both.1.0; reported = both.1.1 }
+    f.new.words f.new.report f.result.root f.result.dropped f.ensures.words_after.0 f.ensures.words_after.1 f.ensures.reported
+    c.if-entered-eq0.true in record { words_after = both.0; one_value = both.1.0; reported = both.1.1 }
 
 pub overflow_mul-w : goal.overflow_mul-w
 overflow_mul-w c = let d = dropped-few (goal.at.overflow_mul-w c).After-fill-f in omega (arith, d)
@@ -49,7 +46,8 @@ fill-g-requires c = let a = c.args in
     let u : length w ≡ length a.words.now = search rules in
     let v : length r ≡ length a.report.now = search rules in
     second-ready _ _ _ c.args.entered.toured _ _ c.requires.0 c.requires.1 a.words.now a.report.now c.requires.2 c.requires.3
-    w r f.result.root f.result.dropped f.ensures.words_after.0 f.ensures.words_after.1 f.ensures.reported c.if-entered-eq0.false f.ensures.dropped_bound v u
+    w r f.result.root f.result.dropped f.ensures.words_after.0 f.ensures.words_after.1 f.ensures.reported c.if-entered-eq0.false
+    f.ensures.dropped_bound v u
 
 pub overflow_add-result : goal.overflow_add-result
 overflow_add-result c = let b = few _ _ _ c.args.entered.toured _ _ c.fill-f.ensures.dropped_bound c.fill-g.ensures.dropped_bound in
@@ -59,5 +57,7 @@ pub returns : goal.returns
 returns c = let f = c.fill-f in
     let g = c.fill-g in
     let both = beside-filled _ _ _ c.args.entered.toured _ _ c.requires.0 c.requires.1 _ _ c.requires.2 c.requires.3
-    f.new.words f.new.report f.result.root f.result.dropped f.ensures.words_after.0 f.ensures.words_after.1 f.ensures.reported c.if-entered-eq0.false
-    g.new.words g.new.report g.result.root g.result.dropped g.ensures.words_after.0 g.ensures.words_after.1 g.ensures.reported in record { words_after = both.0; one_value = both.1.0; reported = both.1.1 }
+    f.new.words f.new.report f.result.root f.result.dropped f.ensures.words_after.0 f.ensures.words_after.1
+    f.ensures.reported c.if-entered-eq0.false
+    g.new.words g.new.report g.result.root g.result.dropped g.ensures.words_after.0 g.ensures.words_after.1 g.ensures.reported in record
+    { words_after = both.0; one_value = both.1.0; reported = both.1.1 }

@@ -18,9 +18,11 @@ bounds-entered-2 c = let w = words-some _ _ _ c.args.entered.toured in omega (ar
 
 pub returns-then-needed_both-entered : goal.returns-then-needed_both-entered
 returns-then-needed_both-entered c = record {
-  most = most _ _ _ c.args.entered.toured _ _ c.count_used-one.ensures.1 c.count_used-two.ensures.1 c.count_used-one.ensures.0 c.count_used-two.ensures.0;
+  most = most _ _ _ c.args.entered.toured _ _ c.count_used-one.ensures.1 c.count_used-two.ensures.1 c.count_used-one.ensures.0
+      c.count_used-two.ensures.0;
   two_value =
-      used-fit _ _ _ c.args.entered.toured _ _ c.count_used-one.ensures.1 c.count_used-two.ensures.1 c.count_used-one.ensures.0 c.count_used-two.ensures.0 _ c.needed_both.ensures c.if-needed_both-entered.true;
+      used-fit _ _ _ c.args.entered.toured _ _ c.count_used-one.ensures.1 c.count_used-two.ensures.1 c.count_used-one.ensures.0
+      c.count_used-two.ensures.0 _ c.needed_both.ensures c.if-needed_both-entered.true;
 }
 
 pub count_kept-one-requires : goal.count_kept-one-requires
@@ -30,4 +32,6 @@ pub count_kept-two-requires : goal.count_kept-two-requires
 count_kept-two-requires c = two-few _ _ _ c.args.entered.toured
 
 pub returns : goal.returns
-returns c = let both = kept-bounds _ _ _ c.args.entered.toured _ _ c.count_kept-one.ensures.1 c.count_kept-two.ensures.1 c.count_kept-one.ensures.0 c.count_kept-two.ensures.0 in record { most = both.0; two_value = both.1 }
+returns c = let both =
+    kept-bounds _ _ _ c.args.entered.toured _ _ c.count_kept-one.ensures.1 c.count_kept-two.ensures.1 c.count_kept-one.ensures.0
+    c.count_kept-two.ensures.0 in record { most = both.0; two_value = both.1 }

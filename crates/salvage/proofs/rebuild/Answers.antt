@@ -1,9 +1,5 @@
 -- `salvage::rebuild` meets its contract.
-use mathlib.Core.Path.{◌≡◌}
-use Prim.Native.Nat.{◌-◌}
-use lib.ListN.{length, take, drop}
-use borrow.Author.Rules.{rules}
-use native.Mathlib.Omega.{arith}
+use Rattle.std.proofs.Common.{◌≡◌, ◌-◌, length, take, drop, arith, rules}
 use Rattle.salvage.proofs.Bounds.{words-some}
 use Rattle.salvage.proofs.Call.{out-long, part-long, put-out, rebuilt}
 use Rattle.salvage.proofs.rebuild.Goals as goal

@@ -1,8 +1,5 @@
 -- `salvage::salvage` meets its contract.
-use mathlib.Core.Path.{◌≡◌, sym, ◌∙◌}
-use mathlib.Core.Bool.{true, false}
-use Prim.Native.Nat.{◌≤◌}
-use native.Mathlib.Omega.{arith}
+use Rattle.std.proofs.Common.{◌≡◌, ◌≤◌, true, false, sym, ◌∙◌, arith}
 use Rattle.model.specs.Table.{header_ok, nodes}
 use Rattle.model.specs.Salvage.{outgrows}
 use Rattle.list_laws.proofs.Tools.{handed-on}
@@ -18,9 +15,11 @@ use Rattle.salvage.proofs.salvage.Goals as goal
 good : (c : In_ok-header) → header_ok c.args.table.now ≡ true
 good c = header-good _ c.header.ensures c.in_ok-header.was
 
-fit : (c : Else-top-needed_both) → let t = c.args.table.now in let m = c.most_kept-bounds.result in (needed_both t m.one m.two ≤ nodes t) × (outgrows t ≡ false)
+fit : (c : Else-top-needed_both) → let t = c.args.table.now in let m =
+    c.most_kept-bounds.result in (needed_both t m.one m.two ≤ nodes t) × (outgrows t ≡ false)
 fit c = let m = c.most_kept-bounds in
-    fits _ _ _ c.enter_nodes-counts.ensures.toured m.result.one m.result.two _ c.needed_both.ensures m.ensures.two_value c.if-top-needed_both.false
+    fits _ _ _ c.enter_nodes-counts.ensures.toured m.result.one m.result.two _ c.needed_both.ensures m.ensures.two_value
+    c.if-top-needed_both.false
 
 pub returns-in_err-header : goal.returns-in_err-header
 returns-in_err-header c =
@@ -58,7 +57,8 @@ pub returns-then-top-needed_both : goal.returns-then-top-needed_both
 returns-then-top-needed_both c = let a = c.args in
     let h = good (goal.at.returns-then-top-needed_both c).In_ok-header in
     let m = c.most_kept-bounds in
-    let g = grown a.table.now _ _ c.enter_nodes-counts.ensures.toured m.result.one m.result.two _ c.needed_both.ensures m.ensures.two_value c.if-top-needed_both.true in
+    let g = grown a.table.now _ _ c.enter_nodes-counts.ensures.toured m.result.one m.result.two _ c.needed_both.ensures m.ensures.two_value
+    c.if-top-needed_both.true in
     let both = refused-outgrown a.table.now a.out.now a.report.now h c.if-out-table.false c.if-report-top.false g in
     record { value = both.0; out_after = both.1.0; report_after = both.1.1 }
 

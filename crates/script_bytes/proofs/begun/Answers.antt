@@ -1,7 +1,5 @@
 -- `script_bytes::begun` meets its contract.
-use mathlib.Core.Path.{◌≡◌, refl}
-use mathlib.Core.Bool.{true}
-use mathlib.Core.Logic.{◌≢◌}
+use Rattle.std.proofs.Common.{◌≡◌, true, ◌≢◌, refl}
 use Rattle.script_bytes.specs.Line.{begun}
 use Rattle.script_bytes.specs.declared.Place.{Place}
 use Rattle.script_bytes.specs.declared.Place.TheVariants.{Start, Sign, CodeStart, Code, RecordingStart, Recording, Other}
@@ -21,4 +19,5 @@ past-start Other h = refl
 
 pub returns : goal.returns
 unfolding begun
-returns c = elim c.match-matches.branch [ in-Start w ↦ rw (w.matches-is, w.in-Start.is) | in_default w ↦ rw w.matches-is (past-start _ w.in_default.not-Start) ]
+returns c = elim c.match-matches.branch
+    [ in-Start w ↦ rw (w.matches-is, w.in-Start.is) | in_default w ↦ rw w.matches-is (past-start _ w.in_default.not-Start) ]

@@ -1,6 +1,5 @@
 -- `script_bytes::code_of` meets its contract.
-use mathlib.Core.Path.{sym}
-use borrow.Author.Tests.{eq-eqb, ne_eqb}
+use Rattle.std.proofs.Common.{sym, eq-eqb, ne_eqb}
 use Rattle.model.specs.declared.Refusal.TheVariants.{NoCode}
 use Rattle.model.proofs.Numbers.{refused-by}
 use Rattle.script_bytes.specs.Line.{code_of}

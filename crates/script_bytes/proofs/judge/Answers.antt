@@ -1,7 +1,5 @@
 -- `script_bytes::judge` meets its contract.
-use mathlib.Core.Path.{◌≡◌, refl, sym, ◌∙◌}
-use mathlib.Core.Bool.{false}
-use mathlib.Core.Logic.{◌≢◌}
+use Rattle.std.proofs.Common.{◌≡◌, false, ◌≢◌, sym, refl, ◌∙◌}
 use Rattle.std.specs.Prelude.{None, Ok}
 use Rattle.list_laws.proofs.Tools.{handed-on}
 use Rattle.model.specs.Results.{Parsed}
@@ -33,11 +31,13 @@ unfinished s Other h i = refl
 
 pub returns-in_err-code_of-in-Code-2 : goal.returns-in_err-code_of-in-Code-2
 returns-in_err-code_of-in-Code-2 c =
-    rw (handed-on c.from_residual.ensures.1) (deletes _ _ _ c.in-Code-2.is c.if-s.false (sym c.in_err-code_of-in-Code-2.was ∙ c.code_of.ensures))
+    rw (handed-on c.from_residual.ensures.1)
+    (deletes _ _ _ c.in-Code-2.is c.if-s.false (sym c.in_err-code_of-in-Code-2.was ∙ c.code_of.ensures))
 
 pub returns-in_err-key-in-Recording : goal.returns-in_err-key-in-Recording
 returns-in_err-key-in-Recording c =
-    rw (handed-on c.from_residual-in_err-key-in-Recording.ensures.1) (inserts _ _ _ c.in-Recording.is (sym c.in_err-key-in-Recording.was ∙ c.code_of-in-Recording.ensures))
+    rw (handed-on c.from_residual-in_err-key-in-Recording.ensures.1)
+    (inserts _ _ _ c.in-Recording.is (sym c.in_err-key-in-Recording.was ∙ c.code_of-in-Recording.ensures))
 
 pub returns-in-Code : goal.returns-in-Code
 unfolding request_at

@@ -1,12 +1,7 @@
 -- `script_bytes::next_number` meets its contract.
-use mathlib.Core.Path.{◌≡◌, sym, ap, ◌∙◌}
-use mathlib.Core.Bool.{Bool, true, false, ◌&&◌}
-use Prim.Native.Nat.{ℕ, ◌+◌, ◌-◌, ◌*◌, ◌^◌, ◌<◌, ◌≤◌}
+use Rattle.std.proofs.Common.{◌≡◌, ℕ, ◌+◌, ◌-◌, ◌*◌, ◌^◌, ◌<◌, ◌≤◌, Bool, true, false, ◌&&◌, leb, sym, ap, ◌∙◌, arith, rules, le-leb}
 use native.Mathlib.Decide.{dec_lt}
-use native.Mathlib.Omega.{arith}
-use lib.Dec.{leb}
-use borrow.Author.Rules.{rules}
-use borrow.Author.Tests.{lt-leb, le-leb}
+use borrow.Author.Tests.{lt-leb}
 use Rattle.std.specs.Prelude.{Option, Some, None, SomeIff}
 use Rattle.isrc.proofs.Characters.{value-digit}
 use Rattle.model.specs.Codes.{is_digit, value}
@@ -30,7 +25,8 @@ not-below m k h = go (dec_lt m k)
     go (no l) = omega arith
 
 -- ten times the number is too large, or it is m
-too_large : (n b : ℕ) (q : Option ℕ) → SomeIff q (n * 10 < 2 ^ 64) (n * 10) → q ≡ None → is_digit b ≡ true → ◌≡◌ {A = Option ℕ} None (next_number n b)
+too_large : (n b : ℕ) (q : Option ℕ) → SomeIff q (n * 10 < 2 ^ 64) (n * 10) → q ≡ None → is_digit b ≡ true
+    → ◌≡◌ {A = Option ℕ} None (next_number n b)
 unfolding next_number
 too_large n b (Some m) h e d = let z : ◌≡◌ {A = ℕ} 0 1 = cc in absurd (omega arith)
 too_large n b None h e d = rw (d, lt-leb (n * 10 + value b) MARK (omega (arith, not-below (n * 10) (2 ^ 64) h)))
@@ -51,7 +47,8 @@ returns-then-not-is_ascii_digit c = no_digit _ _ (told _ _ _ c.is_ascii_digit.en
 
 pub returns-in_err-checked_mul : goal.returns-in_err-checked_mul
 returns-in_err-checked_mul c =
-    c.from_residual.ensures ∙ too_large _ _ _ c.checked_mul.ensures c.in_err-checked_mul.was (told _ _ _ c.is_ascii_digit.ensures.value (search rules))
+    c.from_residual.ensures
+    ∙ too_large _ _ _ c.checked_mul.ensures c.in_err-checked_mul.was (told _ _ _ c.is_ascii_digit.ensures.value (search rules))
 
 pub returns : goal.returns
 returns c =

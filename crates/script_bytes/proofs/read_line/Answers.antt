@@ -1,12 +1,7 @@
--- `script_bytes::read_line` meets its contract. The loop's invariant: what is left of the piece, read from the line so far, is the whole read.
-use mathlib.Core.Path.{◌≡◌, refl, sym, ap, ◌∙◌}
-use mathlib.Core.Logic.{◌≢◌}
-use Prim.Native.Nat.{ℕ, suc, ◌+◌, ◌<◌}
-use native.Mathlib.Numerals.{add-one}
-use native.Mathlib.Omega.{arith}
-use lib.ListN.{length, get_or, drop, drop_of_length-le}
-use lib.Seq.{drop-cons}
-use borrow.Author.Tests.{ne_eqb}
+-- `script_bytes::read_line` meets its contract. The loop's invariant: what is left of the piece, read from the line so far, is the whole
+-- read.
+use Rattle.std.proofs.Common.{◌≡◌, ℕ, suc, ◌+◌, ◌<◌, ◌≢◌, length, get_or, drop, sym, refl, ap, ◌∙◌, add-one, arith, drop_of_length-le}
+use Rattle.std.proofs.Common.{drop-cons, ne_eqb}
 use Rattle.std.specs.Prelude.{Option, Some, None}
 use Rattle.model.specs.Printer.{Bytes}
 use Rattle.script_bytes.specs.Line.{step, line_in, further_by}
@@ -24,14 +19,16 @@ by-more i None = refl
 by-more i (Some n) = let z : i + (1 + n) ≡ suc i + n = omega arith in ap Some z
 
 at-start : (s : LineState) (piece : Bytes) → line_in s piece ≡ left s 0 piece
-at-start s piece = let x = line_in s piece in ap (λ (e : Option ℕ). let y : LineRead = record { line = x.line; end = e } in y) (by-none x.end)
+at-start s piece = let x =
+    line_in s piece in ap (λ (e : Option ℕ). let y : LineRead = record { line = x.line; end = e } in y) (by-none x.end)
 
 module _ (s : LineState) (i : ℕ) (piece : Bytes) where
   at-feed : i < length piece → get_or piece i 0 ≡ 10 → record { line = s; end = Some (i + 1) } ≡ left s i piece
   unfolding line_in
   at-feed h e = rw (drop-cons piece i 0 h, line_in, e)
 
-  at_other : i < length piece → get_or piece i 0 ≢ 10 → (s' : LineState) → s' ≡ step s (get_or piece i 0) → left s i piece ≡ left s' (i + 1) piece
+  at_other : i < length piece → get_or piece i 0 ≢ 10 → (s' : LineState) → s' ≡ step s (get_or piece i 0)
+      → left s i piece ≡ left s' (i + 1) piece
   unfolding line_in
   at_other h e s' f =
       let x = line_in (step s (get_or piece i 0)) (drop (suc i) piece) in

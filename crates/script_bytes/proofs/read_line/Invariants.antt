@@ -1,7 +1,6 @@
--- `script_bytes::read_line` meets its contract. The loop's invariant: what is left of the piece, read from the line so far, is the whole read.
-use mathlib.Core.Path.{◌≡◌}
-use Prim.Native.Nat.{ℕ}
-use lib.ListN.{drop}
+-- `script_bytes::read_line` meets its contract. The loop's invariant: what is left of the piece, read from the line so far, is the whole
+-- read.
+use Rattle.std.proofs.Common.{◌≡◌, ℕ, drop}
 use Rattle.model.specs.Printer.{Bytes}
 use Rattle.script_bytes.specs.Line.{line_in, further_by}
 use Rattle.script_bytes.specs.declared.LineState.{LineState}

@@ -1,7 +1,5 @@
 -- `script_bytes::take` meets its contract.
-use mathlib.Core.Path.{◌≡◌, refl, ◌∙◌}
-use Prim.Native.Nat.{ℕ}
-use mathlib.Core.Logic.{◌≢◌}
+use Rattle.std.proofs.Common.{◌≡◌, ℕ, ◌≢◌, refl, ◌∙◌}
 use Rattle.script_bytes.specs.Line.{next_place, moved, entered, step}
 use Rattle.script_bytes.specs.declared.Place.TheVariants.{Start, Sign, CodeStart, Code, RecordingStart, Recording, Other}
 use Rattle.script_bytes.specs.declared.LineState.{LineState}
@@ -37,4 +35,6 @@ unfolding entered
 returns-in-Recording c = arm _ _ _ _ _ c.next_place-place.ensures c.in-Recording.is c.with_digit.ensures
 
 pub returns-in_default : goal.returns-in_default
-returns-in_default c = arm _ _ _ _ _ c.next_place-place.ensures refl (c.moved.ensures ∙ only-moved _ _ _ c.in_default.not-Sign c.in_default.not-Code c.in_default.not-Recording)
+returns-in_default c =
+    arm _ _ _ _ _ c.next_place-place.ensures refl
+    (c.moved.ensures ∙ only-moved _ _ _ c.in_default.not-Sign c.in_default.not-Code c.in_default.not-Recording)

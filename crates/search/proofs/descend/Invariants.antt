@@ -6,4 +6,5 @@ use Rattle.search.proofs.Standing.{from_there}
 use Rattle.search.proofs.descend.Given as goal
 
 abbrev pub invariant-loop-level : goal.invariant-loop-level
-invariant-loop-level l = from_there (view l.table) l.key l.level l.s ≡ seen_in (view l.table) l.key (locate_from (view l.table) l.root l.key)
+invariant-loop-level l =
+    from_there (view l.table) l.key l.level l.s ≡ seen_in (view l.table) l.key (locate_from (view l.table) l.root l.key)

@@ -9,14 +9,17 @@ returns-then-sibling-eq0 c = let p = c.requires in
 
 pub returns-in_err-y : goal.returns-in_err-y
 returns-in_err-y c = let p = c.requires in
-    c.from_residual.ensures ∙ seen-lost _ _ _ _ (stands-off _ _ _ c.args.key _ p.read_value p.n_value c.if-sibling-eq0.false _ c.read_on.ensures c.in_err-y.was)
+    c.from_residual.ensures
+    ∙ seen-lost _ _ _ _ (stands-off _ _ _ c.args.key _ p.read_value p.n_value c.if-sibling-eq0.false _ c.read_on.ensures c.in_err-y.was)
 
 pub returns-then-key-y : goal.returns-then-key-y
 returns-then-key-y c = let p = c.requires in
-    seen-read _ _ _ _ _ _ _ (stands-here _ _ _ _ _ p.read_value p.n_value c.if-sibling-eq0.false _ c.read_on.ensures _ c.in_ok-y.was c.if-key-y.true)
+    seen-read _ _ _ _ _ _ _
+    (stands-here _ _ _ _ _ p.read_value p.n_value c.if-sibling-eq0.false _ c.read_on.ensures _ c.in_ok-y.was c.if-key-y.true)
     p.read_value c.look-here.ensures
 
 pub returns : goal.returns
 returns c = let p = c.requires in
-    seen-read _ _ _ _ _ _ _ (stands-right _ _ _ _ _ p.read_value p.n_value c.if-sibling-eq0.false _ c.read_on.ensures _ c.in_ok-y.was c.if-key-y.false)
+    seen-read _ _ _ _ _ _ _
+    (stands-right _ _ _ _ _ p.read_value p.n_value c.if-sibling-eq0.false _ c.read_on.ensures _ c.in_ok-y.was c.if-key-y.false)
     (sibling-is _ _ _ c.args.key _ p.read_value p.n_value c.if-sibling-eq0.false _ c.read_on.ensures _ c.in_ok-y.was) c.look.ensures

@@ -17,10 +17,12 @@ keep-requires g c =
     let dock = c.requires.makes.1 in
     let m = c.requires.makes.2 in
     let d = m.does _ _ _ _ _ c.change-answer.ensures in
-    keep-asks x a.list.now a.words.now a.table.now dock (passed-zero _ (sym m.test ∙ c.in_ok-tested.was)) _ _ a.words.now _ d.answered d.table d.listed
+    keep-asks x a.list.now a.words.now a.table.now dock (passed-zero _ (sym m.test ∙ c.in_ok-tested.was)) _ _ a.words.now _
+    d.answered d.table d.listed
 
 pub returns : goal.returns
 returns g c x dock m =
     let a = c.args in
     let d = m.does _ _ _ _ _ c.change-answer.ensures in
-    keep-gives x a.list.now a.words.now a.table.now dock (passed-zero _ (sym m.test ∙ c.in_ok-tested.was)) _ _ _ _ d.answered d.table d.listed c.keep.ensures
+    keep-gives x a.list.now a.words.now a.table.now dock (passed-zero _ (sym m.test ∙ c.in_ok-tested.was)) _ _ _ _ d.answered
+    d.table d.listed c.keep.ensures

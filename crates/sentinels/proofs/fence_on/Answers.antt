@@ -9,4 +9,5 @@ returns-then-not-has c = fence-out c.args.table.now c.args.level c.args.n c.requ
 pub returns : goal.returns
 returns c =
     c.then_some.ensures
-    ∙ fence-in c.args.table.now c.args.level c.args.n c.requires (sym c.has.ensures ∙ c.if-not-has.false) _ _ c.word.ensures c.word-2.ensures
+    ∙ fence-in c.args.table.now c.args.level c.args.n c.requires (sym c.has.ensures ∙ c.if-not-has.false) _ _
+    c.word.ensures c.word-2.ensures

@@ -1,7 +1,5 @@
 -- `sentinels::fill` meets its contract. The loop keeps that the words of the nodes before n are set.
-use mathlib.Core.Path.{ap, ◌∙◌}
-use lib.ListN.{length}
-use native.Mathlib.Omega.{arith}
+use Rattle.std.proofs.Common.{length, ap, ◌∙◌, arith}
 use Rattle.two_laws.proofs.SearchTwo.{sound-head}
 use Rattle.sentinel_laws.proofs.TrueWords.{length-anew}
 use Rattle.sentinels.proofs.Refusing.{few-nodes}

@@ -1,8 +1,5 @@
 -- `sentinels::fill` meets its contract. The loop keeps that the words of the nodes before n are set.
-use mathlib.Core.Path.{◌≡◌}
-use Prim.Native.Nat.{ℕ, ◌*◌}
-use lib.Dec.{ltb}
-use lib.ListN.{length}
+use Rattle.std.proofs.Common.{◌≡◌, ℕ, ◌*◌, ltb, length}
 use Rattle.model.specs.Table.{nodes}
 use Rattle.model.specs.Sentinels.{set_anew}
 use Rattle.sentinels.proofs.fill.Given as goal

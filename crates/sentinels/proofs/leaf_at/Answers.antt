@@ -10,7 +10,9 @@ returns-then-sibling-eq0 c = let p = c.requires in stood-on _ _ _ _ _ (stands-la
 pub returns-in_err-fence : goal.returns-in_err-fence
 returns-in_err-fence c = let p = c.requires in
     c.from_residual.ensures
-    ∙ stood-lost _ _ _ _ (stands-off _ _ _ c.args.key _ p.read_value p.n_value c.if-sibling-eq0.false _ refl (no-fence _ _ (sym c.fence_on.ensures ∙ c.in_err-fence.was)))
+    ∙ stood-lost _ _ _ _
+    (stands-off _ _ _ c.args.key _ p.read_value p.n_value c.if-sibling-eq0.false _ refl
+    (no-fence _ _ (sym c.fence_on.ensures ∙ c.in_err-fence.was)))
 
 pub returns-then-key-fence : goal.returns-then-key-fence
 returns-then-key-fence c = let p = c.requires in

@@ -1,6 +1,5 @@
 -- `sentinels::line_find` meets its contract.
-use lib.Dec.{eqb}
-use borrow.Author.Rules.{rules}
+use Rattle.std.proofs.Common.{eqb, rules}
 use Rattle.sentinels.proofs.Reading.{key-taken}
 use Rattle.sentinels.proofs.line_find.Goals as goal
 

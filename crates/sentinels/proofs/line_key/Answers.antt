@@ -1,6 +1,5 @@
 -- `sentinels::line_key` meets its contract.
-use mathlib.Core.Bool.{true}
-use borrow.Author.Rules.{rules}
+use Rattle.std.proofs.Common.{true, rules}
 use Rattle.sentinels.proofs.Reading.{any-taken}
 use Rattle.sentinels.proofs.line_key.Goals as goal
 

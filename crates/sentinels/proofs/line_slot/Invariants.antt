@@ -1,8 +1,5 @@
 -- `sentinels::line_slot` meets its contract. The loop keeps that the line's slots from i on tell what all of them do.
-use mathlib.Core.Path.{◌≡◌}
-use mathlib.Core.Bool.{Bool}
-use Prim.Native.Nat.{ℕ, ◌+◌, ◌-◌}
-use lib.ListN.{take}
+use Rattle.std.proofs.Common.{◌≡◌, ℕ, ◌+◌, ◌-◌, Bool, take}
 use Rattle.model.specs.Slots.{shown}
 use Rattle.slots.specs.Scan.{used_from}
 use Rattle.sentinels.specs.Lines.{words_in, line_of, Tests, first_taken}

@@ -1,10 +1,7 @@
--- `sentinels::renew_stored` meets its contract. The loop keeps that the words of the nodes are set that the first i orders store to, the last
+-- `sentinels::renew_stored` meets its contract. The loop keeps that the words of the nodes are set that the first i orders store to, the
+-- last
 -- one's among them.
-use mathlib.Core.Path.{◌≡◌}
-use mathlib.Core.Bool.{true}
-use mathlib.Core.Logic.{◌≢◌}
-use Prim.Native.Nat.{◌*◌}
-use lib.ListN.{length}
+use Rattle.std.proofs.Common.{◌≡◌, ◌*◌, true, ◌≢◌, length}
 use Rattle.model.specs.Table.{nodes}
 use Rattle.model.specs.Sentinels.{set_anew}
 use Rattle.sentinels.specs.Anew.{named}

@@ -10,4 +10,5 @@ words-node-requires c = leaf-there c.args.table.now c.args.n c.requires _ c.is_l
 
 pub returns : goal.returns
 returns c =
-    leaf-words c.args.table.now c.args.n c.requires _ c.is_leaf.ensures c.if-not-is_leaf.false _ _ _ _ c.words-node.ensures c.line_key.ensures c.line_key-2.ensures c.line_key-3.ensures
+    leaf-words c.args.table.now c.args.n c.requires _ c.is_leaf.ensures c.if-not-is_leaf.false _ _ _ _ c.words-node.ensures
+    c.line_key.ensures c.line_key-2.ensures c.line_key-3.ensures

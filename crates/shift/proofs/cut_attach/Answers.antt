@@ -12,11 +12,13 @@ pub slot_in-requires : goal.slot_in-requires
 slot_in-requires c =
     let t = c.table-table.ensures in
     let r = c.requires in
-    room-as _ _ _ (attach-as _ _ _ _ _ (rw t at c.word-b.ensures) (rw t at c.word-fence.ensures) ∙ shift-in-as c.new-parent.ensures r.p_value_2 _ _)
+    room-as _ _ _ (attach-as _ _ _ _ _ (rw t at c.word-b.ensures) (rw t at c.word-fence.ensures)
+    ∙ shift-in-as c.new-parent.ensures r.p_value_2 _ _)
     (then-room _ _ c.cut_off.ensures r.room)
 
 pub returns : goal.returns
 returns c =
     let t = c.table-table.ensures in
     then-stored _ _ c.cut_off.ensures
-    (stored-as (attach-as _ _ _ _ _ (rw t at c.word-b.ensures) (rw t at c.word-fence.ensures) ∙ shift-in-as c.new-parent.ensures c.requires.p_value_2 _ _) c.slot_in.ensures)
+    (stored-as (attach-as _ _ _ _ _ (rw t at c.word-b.ensures) (rw t at c.word-fence.ensures)
+    ∙ shift-in-as c.new-parent.ensures c.requires.p_value_2 _ _) c.slot_in.ensures)

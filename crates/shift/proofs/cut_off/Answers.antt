@@ -5,7 +5,10 @@ use Rattle.shift.proofs.cut_off.Goals as goal
 
 pub put-requires : goal.put-requires
 put-requires c =
-    room-as _ _ _ (cut-as c.new-opened.ensures c.requires.a_value_2 _ _ (rw c.table.ensures at c.word-fence.ensures) c.place-p.ensures.value) c.requires.room
+    room-as _ _ _ (cut-as c.new-opened.ensures c.requires.a_value_2 _ _ (rw c.table.ensures at c.word-fence.ensures)
+    c.place-p.ensures.value) c.requires.room
 
 pub returns : goal.returns
-returns c = stored-as (cut-as c.new-opened.ensures c.requires.a_value_2 _ _ (rw c.table.ensures at c.word-fence.ensures) c.place-p.ensures.value) c.put.ensures
+returns c = stored-as
+    (cut-as c.new-opened.ensures c.requires.a_value_2 _ _ (rw c.table.ensures at c.word-fence.ensures) c.place-p.ensures.value)
+    c.put.ensures

@@ -1,6 +1,5 @@
 -- `shift::put_words` meets its contract. The loop's invariant: the words from j on are left, and lead to what all of them lead to.
-use Prim.Native.Nat.{◌+◌}
-use lib.ListN.{drop}
+use Rattle.std.proofs.Common.{◌+◌, drop}
 use Rattle.orders.specs.Desk.{of, stored_all}
 use Rattle.orders.proofs.Rest.{Rest}
 use Rattle.model.specs.Writes.{put_all}

@@ -1,8 +1,6 @@
 -- `short_scripts::call` meets its contract.
-use mathlib.Core.Path.{◌≡◌}
-use lib.ListN.{length}
+use Rattle.std.proofs.Common.{◌≡◌, length, rules}
 use Rattle.short_scripts.proofs.Comparing.{call-inserts, call-deletes}
-use borrow.Author.Rules.{rules}
 use Rattle.short_scripts.proofs.call.Goals as goal
 
 pub returns-in-Insert : goal.returns-in-Insert

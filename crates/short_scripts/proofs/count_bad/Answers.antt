@@ -11,6 +11,7 @@ use Rattle.short_scripts.proofs.count_bad.Goals as goal
 pub returns : goal.returns
 returns c = let a = c.args in
     count_from_yields_List c.filter.result c.count.result c.count.ensures.ran
-    (YieldsList-from_filter _ (λ k. is_bad (pairs a.old) (pairs a.new) (carried_out k a.list.now a.table)) (YieldsList-at c.filter.ensures.source (YieldsList-from_range 0 (a.count + 1) (a.count + 1) refl (omega arith)))
+    (YieldsList-from_filter _ (λ k. is_bad (pairs a.old) (pairs a.new) (carried_out k a.list.now a.table))
+    (YieldsList-at c.filter.ensures.source (YieldsList-from_range 0 (a.count + 1) (a.count + 1) refl (omega arith)))
     c.filter.ensures.closure (λ x r q k. search (rules, tests)))
     ∙ counted (pairs a.old) (pairs a.new) a.table a.list.now 0 (a.count + 1)

@@ -1,6 +1,5 @@
 -- `short_scripts::holds` meets its contract.
-use mathlib.Core.Path.{◌∙◌}
-use borrow.Author.Rules.{rules}
+use Rattle.std.proofs.Common.{◌∙◌, rules}
 use Rattle.short_scripts.proofs.Keys.{has-at, has-other}
 use Rattle.short_scripts.proofs.holds.Goals as goal
 

@@ -1,6 +1,5 @@
 -- `short_scripts::length_of` meets its contract.
-use mathlib.Core.Path.{sym}
-use native.Mathlib.Omega.{arith}
+use Rattle.std.proofs.Common.{sym, arith}
 use Rattle.short_laws.proofs.Rank.{script-length}
 use Rattle.short_scripts.proofs.length_of.Goals as goal
 

@@ -1,10 +1,9 @@
 -- `short_scripts::next_of` meets its contract.
-use Rattle.std.proofs.Common.{rules, tests, arith, refl, sym, ap, ℕ, Bool, cond, Option, Some, None, length, ◌∙◌, ◌≡◌, ◌&&◌}
+use Rattle.std.proofs.Common.{◌≡◌, ℕ, Bool, cond, ◌&&◌, ltb, length, Some, None, Option, sym, refl, ap, ◌∙◌, arith, rules, tests}
 use Rattle.std.proofs.lemmas.Iterator.{YieldsList-from_range}
 use Rattle.std.proofs.lemmas.Iterator.Adapters.{option_map_id}
 use Rattle.std.proofs.lemmas.Iterator.Search.{find_from_yields_List}
 use Rattle.std.specs.List.{find, range_with_len}
-use lib.Dec.{ltb}
 use Rattle.model.specs.Search.{first_above}
 use Rattle.model.specs.Refusals.{has_key}
 use Rattle.short_scripts.specs.Held.{Held, pairs}

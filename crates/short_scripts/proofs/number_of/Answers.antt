@@ -1,5 +1,5 @@
 -- `short_scripts::number_of` meets its contract.
-use mathlib.Core.Path.{sym, ◌∙◌}
+use Rattle.std.proofs.Common.{sym, ◌∙◌}
 use borrow.Author.Tests.{not-true, not-false}
 use Rattle.model.specs.declared.Refusal.TheVariants.{BadScript}
 use Rattle.model.proofs.Numbers.{refused-by}

@@ -1,8 +1,5 @@
 -- `short_scripts::rank` meets its contract.
-use mathlib.Core.Path.{sym, ◌∙◌}
-use Prim.Native.Nat.{◌≤◌, ◌<◌}
-use native.Mathlib.Omega.{arith}
-use lib.ListN.{get_or}
+use Rattle.std.proofs.Common.{◌<◌, ◌≤◌, get_or, sym, ◌∙◌, arith}
 use Rattle.short_scripts.proofs.Words.{within-both, rank-next, rank-none, rank-below, rank-small, form-says}
 use Rattle.short_scripts.proofs.rank.Goals.{In-loop-action}
 use Rattle.short_scripts.proofs.rank.Goals as goal
@@ -12,8 +9,10 @@ actions_in-actions-requires c = (form-says c.args.words c.requires).0
 
 -- one action more, of the six
 fits : (c : In-loop-action) → (c.loop-action.n < 1555) × (get_or c.actions_in-actions.result.now c.loop-action.action-index 0 ≤ 5)
-fits c = let i = c.loop-action.invariant in
-    (rank-small c.loop-action.action-index c.loop-action.n (omega (arith, i.few)) i.small, (within-both 5 _ c.loop-action.action-index (omega arith) i.six).0)
+fits c = let i = c.loop-action.invariant in (
+  rank-small c.loop-action.action-index c.loop-action.n (omega (arith, i.few)) i.small,
+  (within-both 5 _ c.loop-action.action-index (omega arith) i.six).0,
+)
 
 pub overflow_add-n : goal.overflow_add-n
 overflow_add-n c = omega (arith, fits (goal.at.overflow_add-n c).In-loop-action)

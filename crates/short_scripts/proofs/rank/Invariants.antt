@@ -1,8 +1,5 @@
 -- `short_scripts::rank` meets its contract.
-use mathlib.Core.Path.{◌≡◌}
-use mathlib.Core.Bool.{true}
-use Prim.Native.Nat.{◌≤◌, ◌<◌}
-use lib.ListN.{length, drop}
+use Rattle.std.proofs.Common.{◌≡◌, ◌<◌, ◌≤◌, true, length, drop}
 use Rattle.model.specs.Scripts.{rank_on, rank, actions_in}
 use Rattle.short_laws.proofs.Rank.{grown}
 use Rattle.short_scripts.proofs.Words.{within}

@@ -1,7 +1,5 @@
 -- `short_scripts::script_of` meets its contract.
-use mathlib.Core.Path.{sym}
-use native.Mathlib.Omega.{arith}
-use borrow.Author.Tests.{lt-ltb, le-ltb}
+use Rattle.std.proofs.Common.{sym, arith, le-ltb, lt-ltb}
 use Rattle.model.specs.declared.Refusal.TheVariants.{NoScript}
 use Rattle.model.proofs.Numbers.{refused-by}
 use Rattle.model.specs.Scripts.{script_answer, script_out}
@@ -9,7 +7,8 @@ use Rattle.short_scripts.proofs.script_of.Goals as goal
 
 pub returns-then-number-gt1554 : goal.returns-then-number-gt1554
 unfolding script_answer script_out
-returns-then-number-gt1554 c = let e = le-ltb c.args.number 1555 c.if-number-gt1554.true in record { value = rw e (sym (refused-by NoScript)); out_after = rw e }
+returns-then-number-gt1554 c = let e =
+    le-ltb c.args.number 1555 c.if-number-gt1554.true in record { value = rw e (sym (refused-by NoScript)); out_after = rw e }
 
 pub returns : goal.returns
 unfolding script_answer script_out

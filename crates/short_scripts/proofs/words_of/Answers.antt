@@ -1,16 +1,18 @@
 -- `short_scripts::words_of` meets its contract.
-use mathlib.Core.Path.{◌≡◌, refl, sym, ◌∙◌}
-use Prim.Native.Nat.{◌+◌, ◌-◌, ◌<◌}
-use native.Mathlib.Omega.{arith}
-use lib.ListN.{length-set}
+use Rattle.std.proofs.Common.{◌≡◌, ◌+◌, ◌-◌, ◌<◌, sym, refl, ◌∙◌, arith, length-set}
 use Rattle.short_laws.proofs.Rank.{unrank-length, script-within}
 use Rattle.short_scripts.proofs.Words.{filled-none, filled-next, filled-words, grown-some, grown-down}
 use Rattle.short_scripts.proofs.words_of.Goals as goal
 
 pub loop-i-init : goal.loop-i-init
 loop-i-init c = let n = c.args.number in
-    let w = script-within n c.requires in
-    (omega (arith, c.length_of-count.ensures, unrank-length 4 n), refl, rw c.length_of-count.ensures w.0, rw c.length_of-count.ensures w.1, refl)
+    let w = script-within n c.requires in (
+      omega (arith, c.length_of-count.ensures, unrank-length 4 n),
+      refl,
+      rw c.length_of-count.ensures w.0,
+      rw c.length_of-count.ensures w.1,
+      refl,
+    )
 
 pub overflow_sub-words : goal.overflow_sub-words
 overflow_sub-words c = let l = c.loop-i in omega (arith, grown-some l.i (omega arith), l.invariant.2)

@@ -6,4 +6,5 @@ use Rattle.slots.proofs.above.Given as goal
 
 abbrev pub invariant-loop-i : goal.invariant-loop-i
 invariant-loop-i l =
-    first_above l.key (kept_of l.sibling l.bound (shown_from l.before l.slots l.i)) ≡ first_above l.key (kept_of l.sibling l.bound (shown_from l.left l.slots 0))
+    first_above l.key (kept_of l.sibling l.bound (shown_from l.before l.slots l.i))
+    ≡ first_above l.key (kept_of l.sibling l.bound (shown_from l.left l.slots 0))

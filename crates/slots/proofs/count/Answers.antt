@@ -13,6 +13,7 @@ returns-clause-value c = let a = c.args in
     c.unwrap_or.ensures
     ∙ ap (λ (r : Option ℕ). unwrap_or r 12) (
     sym (option_map_id c.find.result)
-    ∙ find_from_yields_List (λ (i : ℕ). eqb (at a.slots (2 * i + 1)) 0) _ _ c.find.result c.find.ensures.ran (YieldsList-from_range 0 12 _ refl refl) (λ x b q k. search (rules, tests))
+    ∙ find_from_yields_List (λ (i : ℕ). eqb (at a.slots (2 * i + 1)) 0) _ _ c.find.result c.find.ensures.ran
+    (YieldsList-from_range 0 12 _ refl refl) (λ x b q k. search (rules, tests))
     )
     ∙ count-found a.slots (search rules)

@@ -18,7 +18,8 @@ loop-i-init c = (omega arith, search rules, search rules, first-way _ _ _)
 pub returns-then-pointer-eq0 : goal.returns-then-pointer-eq0
 returns-then-pointer-eq0 c = let a = c.args in let l = c.loop-i in
     sym (ways-none _ _ l.before _)
-    ∙ scan-stop (comes a.x.sibling a.bound l.before (span l.keys l.pointers 0 l.count)) _ l.i l.invariant.3 (omega arith) c.if-pointer-eq0.true
+    ∙ scan-stop (comes a.x.sibling a.bound l.before (span l.keys l.pointers 0 l.count)) _ l.i l.invariant.3
+    (omega arith) c.if-pointer-eq0.true
 
 pub loop-i-preserved : goal.loop-i-preserved
 loop-i-preserved c = let a = c.args in let l = c.loop-i in
@@ -27,7 +28,8 @@ loop-i-preserved c = let a = c.args in let l = c.loop-i in
         omega arith,
         rw (w.keys-is, length-set) l.invariant.1,
         rw (w.pointers-is, length-set) l.invariant.2,
-        scan-more (comes a.x.sibling a.bound l.before (span l.keys l.pointers 0 l.count)) _ l.i l.invariant.3 (omega arith) c.if-pointer-eq0.false
+        scan-more (comes a.x.sibling a.bound l.before (span l.keys l.pointers 0 l.count)) _ l.i l.invariant.3
+            (omega arith) c.if-pointer-eq0.false
             (rw (w.keys-is, w.pointers-is, w.count-is)
             (ap (λ (ss : List Slot). span l.keys l.pointers 0 l.count ++ ss) (kept-taken _ _ _ _ _ _ c.is_way.ensures w.if-is_way.true)
             ∙ way-taken _ _ _ _ _ _ (omega arith) (omega arith))),
@@ -36,7 +38,8 @@ loop-i-preserved c = let a = c.args in let l = c.loop-i in
         omega arith,
         rw w.keys-is l.invariant.1,
         rw w.pointers-is l.invariant.2,
-        scan-more (comes a.x.sibling a.bound l.before (span l.keys l.pointers 0 l.count)) _ l.i l.invariant.3 (omega arith) c.if-pointer-eq0.false
+        scan-more (comes a.x.sibling a.bound l.before (span l.keys l.pointers 0 l.count)) _ l.i l.invariant.3
+            (omega arith) c.if-pointer-eq0.false
             (rw (w.keys-is, w.pointers-is, w.count-is)
             (ap (λ (ss : List Slot). span l.keys l.pointers 0 l.count ++ ss) (kept-passed _ _ _ _ _ _ c.is_way.ensures w.if-is_way.false))),
       )

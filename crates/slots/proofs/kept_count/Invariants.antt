@@ -5,4 +5,5 @@ use Rattle.slots.proofs.kept_count.Given as goal
 
 abbrev pub invariant-loop-i : goal.invariant-loop-i
 invariant-loop-i l = (l.count ≤ l.i)
-    × (l.count + length (kept_of l.sibling l.bound (shown_from l.before l.slots l.i)) ≡ length (kept_of l.sibling l.bound (shown_from l.left l.slots 0)))
+    × (l.count + length (kept_of l.sibling l.bound (shown_from l.before l.slots l.i))
+    ≡ length (kept_of l.sibling l.bound (shown_from l.left l.slots 0)))

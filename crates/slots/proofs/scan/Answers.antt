@@ -10,7 +10,8 @@ pub returns-then-p-eq0 : goal.returns-then-p-eq0
 returns-then-p-eq0 c = let l = c.loop-i in
     let e =
     sym (seen-none _ l.way l.held l.before)
-    ∙ scan-stop (λ (ss : List Slot). seen_after c.args.key l.way l.held (shown l.before ss)) _ l.i l.invariant (omega arith) c.if-p-eq0.true in
+    ∙ scan-stop (λ (ss : List Slot). seen_after c.args.key l.way l.held (shown l.before ss)) _ l.i l.invariant
+    (omega arith) c.if-p-eq0.true in
     record { way_value = ap (λ (s : Seen). s.way) e; held_value = ap (λ (s : Seen). s.held) e }
 
 pub loop-i-preserved : goal.loop-i-preserved

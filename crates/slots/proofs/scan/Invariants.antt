@@ -6,4 +6,5 @@ use Rattle.slots.proofs.Kept.{seen_after}
 use Rattle.slots.proofs.scan.Given as goal
 
 abbrev pub invariant-loop-i : goal.invariant-loop-i
-invariant-loop-i l = seen_after l.key l.way l.held (shown l.before (used_from l.slots l.i)) ≡ seen_after l.key l.left 0 (shown l.left (used_from l.slots 0))
+invariant-loop-i l =
+    seen_after l.key l.way l.held (shown l.before (used_from l.slots l.i)) ≡ seen_after l.key l.left 0 (shown l.left (used_from l.slots 0))

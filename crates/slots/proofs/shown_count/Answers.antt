@@ -1,6 +1,5 @@
 -- `slots::shown_count` meets its contract.
-use mathlib.Core.Path.{ap, ◌∙◌}
-use lib.ListN.{length}
+use Rattle.std.proofs.Common.{length, ap, ◌∙◌}
 use Rattle.slots.proofs.Kept.{all-kept}
 use Rattle.slots.proofs.shown_count.Goals as goal
 

@@ -1,4 +1,5 @@
--- `sound::check_node` and `sound::check_slot`: the level falls. The loop keeps what checking the ways from i on, from the present state, comes to.
+-- `sound::check_node` and `sound::check_slot`: the level falls. The loop keeps what checking the ways from i on, from the present state,
+-- comes to.
 use Prim.Native.Nat.{◌+◌, ◌-◌, ◌*◌}
 use Rattle.std.specs.Prelude.{Some}
 use Rattle.model.specs.Slots.{view}

@@ -11,7 +11,8 @@ pub returns-in_err-seen : goal.returns-in_err-seen
 returns-in_err-seen c = rw c.from_residual.ensures (wrong-walk _ c.in_err-seen.ensures.value)
 
 pub returns-in_err-leftover : goal.returns-in_err-leftover
-returns-in_err-leftover c = rw c.from_residual-in_err-leftover.ensures (wrong-leftover _ _ c.in_ok-seen.ensures.value c.in_err-leftover.ensures)
+returns-in_err-leftover c =
+    rw c.from_residual-in_err-leftover.ensures (wrong-leftover _ _ c.in_ok-seen.ensures.value c.in_err-leftover.ensures)
 
 pub returns-then-not-has_room : goal.returns-then-not-has_room
 returns-then-not-has_room c =
@@ -24,7 +25,8 @@ returns-then-not-ok c =
     let a = c.args in
     let w = c.in_ok-seen.ensures in
     let l = c.in_ok-leftover.ensures in
-    let right = walk-right a.table.now a.root MARKS _ _ _ c.requires w.value (w.adds tt) (allowed _ _ w.value _ l) c.uncut-marks.ensures _ c.ok.ensures in
+    let right = walk-right a.table.now a.root MARKS _ _ _ c.requires w.value (w.adds tt) (allowed _ _ w.value _ l)
+    c.uncut-marks.ensures _ c.ok.ensures in
     wrong-recordings _ _ w.value _ l (sym right ∙ c.if-not-ok.true)
 
 pub returns : goal.returns
@@ -32,5 +34,8 @@ returns c =
     let a = c.args in
     let w = c.in_ok-seen.ensures in
     let l = c.in_ok-leftover.ensures in
-    let right = walk-right a.table.now a.root MARKS _ _ _ c.requires w.value (w.adds tt) (allowed _ _ w.value _ l) c.uncut-marks.ensures _ c.ok.ensures in
-    all-right _ _ w.value _ l (sym (c.has_room.ensures ∙ room-any a.table.now (root a.table.now) a.root (meant c.in_ok-leftover.leftover)) ∙ c.if-not-has_room.false) (sym right ∙ c.if-not-ok.false)
+    let right = walk-right a.table.now a.root MARKS _ _ _ c.requires w.value (w.adds tt) (allowed _ _ w.value _ l)
+    c.uncut-marks.ensures _ c.ok.ensures in
+    all-right _ _ w.value _ l
+    (sym (c.has_room.ensures ∙ room-any a.table.now (root a.table.now) a.root (meant c.in_ok-leftover.leftover))
+    ∙ c.if-not-has_room.false) (sym right ∙ c.if-not-ok.false)

@@ -13,7 +13,8 @@ returns-in_err-header c =
 
 pub returns-in_err-whole : goal.returns-in_err-whole
 returns-in_err-whole c =
-    let both = not-sound _ _ c.check.ensures (passed-zero _ (sym c.header.ensures ∙ c.in_ok-header.was)) (sym c.ok_or.ensures.value ∙ c.in_err-whole.was) in
+    let both = not-sound _ _ c.check.ensures (passed-zero _ (sym c.header.ensures ∙ c.in_ok-header.was))
+    (sym c.ok_or.ensures.value ∙ c.in_err-whole.was) in
     record { value = rw (handed-on c.from_residual-in_err-whole.ensures.1) both.0; out_after = both.1 }
 
 pub report_of-requires : goal.report_of-requires
@@ -21,5 +22,6 @@ report_of-requires c = was-found _ c.args.out.now c.check.ensures (sym c.ok_or.e
 
 pub returns : goal.returns
 returns c =
-    let both = is-sound _ _ _ _ (was-found _ c.args.out.now c.check.ensures (sym c.ok_or.ensures.value ∙ c.in_ok-whole.was)) _ c.report_of.ensures in
+    let both = is-sound _ _ _ _ (was-found _ c.args.out.now c.check.ensures (sym c.ok_or.ensures.value ∙ c.in_ok-whole.was))
+    _ c.report_of.ensures in
     record { value = both.0; out_after = both.1 }

@@ -1,4 +1,5 @@
--- `statistics::codes_along` meets its contract: the sum of what each leaf along the siblings has. That the map yields these numbers stands in both
+-- `statistics::codes_along` meets its contract: the sum of what each leaf along the siblings has. That the map yields these numbers stands
+-- in both
 -- answers: a law of it would have to write out what std says of a map's closure, longer than the chain.
 use Rattle.std.proofs.Common.{arith, tests, rules, length, ◌∙◌}
 use Rattle.std.proofs.lemmas.Iterator.{YieldsList-from_map}
@@ -13,11 +14,15 @@ use Rattle.statistics.proofs.codes_along.Goals as goal
 pub sum-requires-clause-fits : goal.sum-requires-clause-fits
 sum-requires-clause-fits c = let a = c.args in let t = a.table.now in
     fits_by_from_yields_list (λ n. length (kept (view t) n)) _ c.map.result _
-    (YieldsList-from_map _ (λ n. length (kept (view t) n)) (YieldsList-at c.map.ensures.source (YieldsList-from_first (λ x. x) siblings_left _ c.new.ensures)) c.map.ensures.closure (λ x r q k. search (rules, tests)))
+    (YieldsList-from_map _ (λ n. length (kept (view t) n))
+    (YieldsList-at c.map.ensures.source (YieldsList-from_first (λ x. x) siblings_left _ c.new.ensures)) c.map.ensures.closure
+    (λ x r q k. search (rules, tests)))
     (omega (arith, codes-sum t (along (view t) a.most a.first), codes-bound t a.most a.first, c.requires))
 
 pub returns : goal.returns
 returns c = let a = c.args in let t = a.table.now in
     sum_by_from_yields_List (λ n. length (kept (view t) n)) _ c.map.result _ c.sum.ensures.ran
-    (YieldsList-from_map _ (λ n. length (kept (view t) n)) (YieldsList-at c.map.ensures.source (YieldsList-from_first (λ x. x) siblings_left _ c.new.ensures)) c.map.ensures.closure (λ x r q k. search (rules, tests)))
+    (YieldsList-from_map _ (λ n. length (kept (view t) n))
+    (YieldsList-at c.map.ensures.source (YieldsList-from_first (λ x. x) siblings_left _ c.new.ensures)) c.map.ensures.closure
+    (λ x r q k. search (rules, tests)))
     ∙ codes-sum t _

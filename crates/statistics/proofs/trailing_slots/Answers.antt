@@ -1,8 +1,7 @@
 -- `statistics::trailing_slots` meets its contract.
-use native.Mathlib.Omega.{arith}
+use Rattle.std.proofs.Common.{arith, rules}
 use Rattle.model.specs.Statistics.{trailing_slots}
 use Rattle.statistics.proofs.Lefts.{kept-shown}
-use borrow.Author.Rules.{rules}
 use Rattle.statistics.proofs.trailing_slots.Goals as goal
 
 pub overflow_sub-result : goal.overflow_sub-result

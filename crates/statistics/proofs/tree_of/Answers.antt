@@ -1,7 +1,6 @@
 -- `statistics::tree_of` meets its contract.
-use native.Mathlib.Omega.{arith}
+use Rattle.std.proofs.Common.{arith, rules}
 use Rattle.statistics.proofs.Codes.{top-few, tree-words}
-use borrow.Author.Rules.{rules}
 use Rattle.statistics.proofs.tree_of.Goals as goal
 
 pub codes_of-codes-requires : goal.codes_of-codes-requires

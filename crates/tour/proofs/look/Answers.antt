@@ -1,6 +1,5 @@
 -- `tour::look` meets its contract.
-use mathlib.Core.Path.{sym, ◌∙◌}
-use native.Mathlib.Omega.{arith}
+use Rattle.std.proofs.Common.{sym, ◌∙◌, arith}
 use Rattle.tour.proofs.Looks.{sight-leaf, sight-left, sight-sibling, sight-end, sight-unmet, sight-met}
 use Rattle.tour.proofs.look.Goals as goal
 
@@ -20,7 +19,8 @@ returns-then-pointer-eq0 c = sight-end _ _ c.read-node.result c.read-node.ensure
 pub returns-then-not-is_met : goal.returns-then-not-is_met
 returns-then-not-is_met c = sight-unmet _ _ c.read-node.result c.read-node.ensures _
     c.if-w-eq0.false c.if-w-eq13.false c.requires
-    c.pointer_before-before.result c.pointer_before-before.ensures.value c.if-pointer-eq0.false (sym c.is_met.ensures ∙ c.if-not-is_met.true)
+    c.pointer_before-before.result c.pointer_before-before.ensures.value c.if-pointer-eq0.false
+    (sym c.is_met.ensures ∙ c.if-not-is_met.true)
 
 pub returns : goal.returns
 returns c = sight-met _ _ c.read-node.result

@@ -1,7 +1,5 @@
 -- `wear::count_pairs` meets its contract.
-use mathlib.Core.Path.{ap}
-use native.Mathlib.Omega.{arith}
-use lib.ListN.{length}
+use Rattle.std.proofs.Common.{length, ap, arith}
 use Rattle.wear.proofs.Running.{left-first, counted-end, left-longer, counted-next}
 use Rattle.wear.proofs.count_pairs.Goals as goal
 

@@ -1,7 +1,5 @@
 -- `wear::count_stores` meets its contract.
-use mathlib.Core.Path.{◌≡◌, refl, ◌∙◌}
-use lib.ListN.{replicate}
-use Rattle.std.proofs.Common.{rules, arith, length}
+use Rattle.std.proofs.Common.{◌≡◌, length, replicate, refl, ◌∙◌, arith, rules}
 use Rattle.model.specs.Orders.{decode}
 use Rattle.model.specs.Wear.{stored_to}
 use Rattle.wear.proofs.Turns.{below-as, below-here, below-next}
@@ -9,12 +7,13 @@ use Rattle.wear.proofs.Tallying.{tally-begins, tally-few, total-few, tally-next,
 use Rattle.wear.proofs.count_stores.Goals as goal
 
 pub loop-pair-init : goal.loop-pair-init
-loop-pair-init c = let zeros : c.fill.new.self ≡ replicate (length c.args.lines.now) 0 = search rules in let z = c.chunks_exact-pair-items.ensures in let same = c.into_iter-pair-iterator.ensures.into_iter_gives in record {
-  pairs = search rules;
-  room = refl;
-  below = rw (same, z.rest) (below-as 8 _ _ (stored_to (decode c.args.list.now)) c.fill.auto.self c.requires);
-  tally = rw (same, z.rest) (tally-begins _ (length c.args.lines.now) _ zeros);
-}
+loop-pair-init c = let zeros : c.fill.new.self ≡ replicate (length c.args.lines.now) 0 = search rules in let z =
+    c.chunks_exact-pair-items.ensures in let same = c.into_iter-pair-iterator.ensures.into_iter_gives in record {
+      pairs = search rules;
+      room = refl;
+      below = rw (same, z.rest) (below-as 8 _ _ (stored_to (decode c.args.list.now)) c.fill.auto.self c.requires);
+      tally = rw (same, z.rest) (tally-begins _ (length c.args.lines.now) _ zeros);
+    }
 
 pub count_one-total-requires-clause-each : goal.count_one-total-requires-clause-each
 count_one-total-requires-clause-each c = let l = c.loop-pair in let s = c.in-Some.ensures.steps in
@@ -25,14 +24,19 @@ count_one-total-requires-clause-by_index c = λ k. omega (arith, tally-few _ _ _
 
 pub overflow_add-total : goal.overflow_add-total
 overflow_add-total c = let l = c.loop-pair in let s = c.in-Some.ensures.steps in
-    omega (arith, total-few _ _ _ _ l.invariant.tally _ _ s.1.0 (s.1.1 ∙ l.invariant.pairs) _ c.from.ensures _ c.count_one-total.ensures.value)
+    omega (
+      arith,
+      total-few _ _ _ _ l.invariant.tally _ _ s.1.0 (s.1.1 ∙ l.invariant.pairs) _ c.from.ensures _
+          c.count_one-total.ensures.value,
+    )
 
 pub loop-pair-preserved : goal.loop-pair-preserved
 loop-pair-preserved c = let l = c.loop-pair in let s = c.in-Some.ensures.steps in record {
   pairs = s.0 ∙ l.invariant.pairs;
   room = search rules;
   below = below-next _ _ _ s.1.0 (s.1.1 ∙ l.invariant.pairs) _ l.invariant.below;
-  tally = tally-next _ _ _ _ l.invariant.tally _ _ s.1.0 (s.1.1 ∙ l.invariant.pairs) _ c.from.ensures _ c.count_one-total.ensures.value _ c.count_one-total.ensures.by_index_2;
+  tally = tally-next _ _ _ _ l.invariant.tally _ _ s.1.0 (s.1.1 ∙ l.invariant.pairs) _ c.from.ensures _ c.count_one-total.ensures.value _
+      c.count_one-total.ensures.by_index_2;
 }
 
 pub returns-clause-value : goal.returns-clause-value

@@ -1,6 +1,5 @@
 -- `wear::mark` meets its contract. The loop's invariant: the orders of the words left, marked now, leave what all of them leave.
-use mathlib.Core.Path.{◌∙◌}
-use Rattle.std.proofs.Common.{rules, arith}
+use Rattle.std.proofs.Common.{◌∙◌, arith, rules}
 use Rattle.wear.proofs.Turns.{below-here, below-next}
 use Rattle.wear.proofs.Marking.{marking-next, marking-end}
 use Rattle.wear.proofs.mark.Goals as goal

@@ -1,7 +1,6 @@
 -- `wear::seek` meets its contract. The loop's invariant: no number passed is one that is wanted.
-use native.Mathlib.Omega.{arith}
+use Rattle.std.proofs.Common.{arith, rules}
 use Rattle.wear.proofs.Seeking.{seek-none, seek-found, seek-next, seek-end}
-use borrow.Author.Rules.{rules}
 use Rattle.wear.proofs.seek.Goals as goal
 
 pub loop-w-init : goal.loop-w-init

@@ -1,8 +1,5 @@
 -- `wear::seek` meets its contract. The loop's invariant: no number passed is one that is wanted.
-use Prim.Native.Nat.{ℕ, ◌≤◌, ◌<◌, ◌-◌}
-use mathlib.Core.Path.{◌≡◌}
-use mathlib.Core.Bool.{Bool, not}
-use lib.Dec.{eqb}
+use Rattle.std.proofs.Common.{◌≡◌, ℕ, ◌-◌, ◌<◌, ◌≤◌, Bool, not, eqb}
 use Rattle.bits.specs.Bits.{has}
 use Rattle.wear.proofs.seek.Given as goal
 

@@ -1,5 +1,5 @@
 -- `wear::unwanted` meets its contract.
-use native.Mathlib.Omega.{arith}
+use Rattle.std.proofs.Common.{arith}
 use lib.Count.{trailing_le}
 use Rattle.wear.proofs.Seeking.{word-least}
 use Rattle.wear.proofs.unwanted.Goals as goal

@@ -1,8 +1,5 @@
 -- `wear::wanted_bits` meets its contract.
-use mathlib.Core.Path.{ap}
-use mathlib.Core.Bool.{not}
-use native.Mathlib.Omega.{arith}
-use borrow.Author.Tests.{eq-eqb, ne_eqb}
+use Rattle.std.proofs.Common.{not, ap, arith, eq-eqb, ne_eqb}
 use Rattle.wear.proofs.Bits.{bits-marked, bits-unmarked}
 use Rattle.wear.proofs.wanted_bits.Goals as goal
 

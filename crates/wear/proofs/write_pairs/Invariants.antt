@@ -1,8 +1,5 @@
 -- `wear::write_pairs` meets its contract.
-use Prim.Native.Nat.{◌≤◌, ◌<◌}
-use mathlib.Core.Path.{◌≡◌}
-use mathlib.Core.Bool.{true}
-use lib.ListN.{length}
+use Rattle.std.proofs.Common.{◌≡◌, ◌<◌, ◌≤◌, true, length}
 use Rattle.bits.specs.Bits.{has}
 use Rattle.wear.proofs.Running.{Written}
 use Rattle.wear.proofs.write_pairs.Given as goal

@@ -17,10 +17,13 @@ pub judge_rest-requires : goal.judge_rest-requires
 unfolding found_root
 judge_rest-requires c =
     let a = c.args in
-    (right-collection 0 0 _ _ (done-ok (number_in a.collection a.table.now) (root_in a.collection a.table.now) (sym c.find_root.ensures ∙ c.in_ok-find_root.was)).0).0
+    (right-collection 0 0 _ _
+    (done-ok (number_in a.collection a.table.now) (root_in a.collection a.table.now)
+    (sym c.find_root.ensures ∙ c.in_ok-find_root.was)).0).0
 
 pub returns : goal.returns
 unfolding found_root
 returns c =
     let a = c.args in
-    judged-rest _ _ _ _ (done-ok (number_in a.collection a.table.now) (root_in a.collection a.table.now) (sym c.find_root.ensures ∙ c.in_ok-find_root.was)).0 _ c.judge_rest.ensures
+    judged-rest _ _ _ _ (done-ok (number_in a.collection a.table.now) (root_in a.collection a.table.now)
+    (sym c.find_root.ensures ∙ c.in_ok-find_root.was)).0 _ c.judge_rest.ensures

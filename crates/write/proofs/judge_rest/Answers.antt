@@ -19,15 +19,19 @@ pub returns-in_err-sound : goal.returns-in_err-sound
 returns-in_err-sound c =
     let none : c.check.result ≡ None = c.ok_or.ensures.ok_part ∙ ap result_ok c.in_err-sound.was in
     rw (handed-on c.from_residual.ensures.1)
-    (sym c.in_err-sound.was ∙ c.ok_or.ensures.value ∙ ap (λ o. ok_or o NotSound) none ∙ sym (refused-by NotSound) ∙ not-sound _ _ _ c.requires (sym c.check.ensures ∙ none))
+    (sym c.in_err-sound.was ∙ c.ok_or.ensures.value ∙ ap (λ o. ok_or o NotSound) none ∙ sym (refused-by NotSound)
+    ∙ not-sound _ _ _ c.requires (sym c.check.ensures ∙ none))
 
 pub returns-then-dock-gt1 : goal.returns-then-dock-gt1
-returns-then-dock-gt1 c = sym (refused-by NoDock) ∙ wrong-dock _ _ _ c.requires _ _ (found (goal.at.returns-then-dock-gt1 c).In_ok-sound) c.if-dock-gt1.true
+returns-then-dock-gt1 c =
+    sym (refused-by NoDock) ∙ wrong-dock _ _ _ c.requires _ _ (found (goal.at.returns-then-dock-gt1 c).In_ok-sound) c.if-dock-gt1.true
 
 pub returns-then-words-words_for : goal.returns-then-words-words_for
 returns-then-words-words_for c =
     sym (refused-by ShortList)
-    ∙ too-short _ _ _ c.requires _ _ (found (goal.at.returns-then-words-words_for c).In_ok-sound) c.if-dock-gt1.false _ c.words_for.ensures c.if-words-words_for.true
+    ∙ too-short _ _ _ c.requires _ _ (found (goal.at.returns-then-words-words_for c).In_ok-sound) c.if-dock-gt1.false _ c.words_for.ensures
+    c.if-words-words_for.true
 
 pub returns : goal.returns
-returns c = all-passed _ _ _ c.requires _ _ (found (goal.at.returns c).In_ok-sound) c.if-dock-gt1.false _ c.words_for.ensures c.if-words-words_for.false
+returns c = all-passed _ _ _ c.requires _ _ (found (goal.at.returns c).In_ok-sound) c.if-dock-gt1.false _ c.words_for.ensures
+    c.if-words-words_for.false

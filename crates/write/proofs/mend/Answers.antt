@@ -1,14 +1,18 @@
 -- `write::mend` meets its contract, by what is left.
 use Rattle.orders.proofs.Rooms.{room-first}
 use Rattle.orders.proofs.Rest.{room-as, stored-as, stored-none}
-use Rattle.write.proofs.Mending.{nothing-stores, close-stores, close-there, attach-stores, cut-attach-stores, attach-plain, both-stores, parent-there, closed-plain, closed-room, closed-attached}
+use Rattle.write.proofs.Mending.{nothing-stores, close-stores, close-there, attach-stores, cut-attach-stores, attach-plain, both-stores}
+use Rattle.write.proofs.Mending.{parent-there, closed-plain, closed-room, closed-attached}
 use Rattle.write.proofs.mend.Goals as goal
 
 pub close-requires : goal.close-requires
 close-requires c =
     let r = c.requires in
     let q = c.in-HiddenIn.is in
-    record { n_value = close-there _ _ r.table_value r.table_value_2 _ q; room = room-as _ _ _ (close-stores _ _ r.table_value r.table_value_2 _ q) r.room }
+    record {
+      n_value = close-there _ _ r.table_value r.table_value_2 _ q;
+      room = room-as _ _ _ (close-stores _ _ r.table_value r.table_value_2 _ q) r.room;
+    }
 
 pub cut_attach-requires : goal.cut_attach-requires
 cut_attach-requires c =
@@ -61,12 +65,16 @@ returns-in-HiddenIn c = stored-as (close-stores _ _ c.requires.table_value c.req
 
 pub returns-then-trailing : goal.returns-then-trailing
 returns-then-trailing c =
-    stored-as (cut-attach-stores _ _ c.requires.table_value c.requires.table_value_2 _ _ _ c.in-MissingIn.is c.if-trailing.true) c.cut_attach.ensures
+    stored-as (cut-attach-stores _ _ c.requires.table_value c.requires.table_value_2 _ _ _ c.in-MissingIn.is c.if-trailing.true)
+    c.cut_attach.ensures
 
 pub returns-else-trailing : goal.returns-else-trailing
-returns-else-trailing c = stored-as (attach-stores _ _ c.requires.table_value c.requires.table_value_2 _ _ _ c.in-MissingIn.is c.if-trailing.false) c.attach.ensures
+returns-else-trailing c =
+    stored-as (attach-stores _ _ c.requires.table_value c.requires.table_value_2 _ _ _ c.in-MissingIn.is c.if-trailing.false)
+    c.attach.ensures
 
 pub returns-in-BothIn : goal.returns-in-BothIn
 returns-in-BothIn c =
     let r = c.requires in
-    closed-attached c.args.writer.now _ r.table_value r.table_value_2 _ _ c.in-BothIn.is c.close-in-BothIn.ensures c.attach-in-BothIn.ensures
+    closed-attached c.args.writer.now _ r.table_value r.table_value_2 _ _ c.in-BothIn.is c.close-in-BothIn.ensures
+    c.attach-in-BothIn.ensures

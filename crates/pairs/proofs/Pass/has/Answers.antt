@@ -1,6 +1,5 @@
 -- `pairs::Pass::has` meets its contract.
-use Rattle.std.proofs.Common.{ℕ, ◌≡◌, ◌∙◌, arith, nat_cmp, is_le, is_lt}
-use lib.Dec.{leb, ltb}
+use Rattle.std.proofs.Common.{◌≡◌, ℕ, ltb, leb, nat_cmp, is_lt, is_le, ◌∙◌, arith}
 use Rattle.std.proofs.lemmas.Bool.Decides.{nat_tests}
 use Rattle.pairs.specs.Passes.{in_pass}
 use Rattle.pairs.proofs.Pass.has.Goals as goal

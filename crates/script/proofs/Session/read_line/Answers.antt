@@ -1,6 +1,5 @@
 -- `script::Session::read_line` meets its contract.
-use mathlib.Core.Path.{refl}
-use borrow.Author.Rules.{rules}
+use Rattle.std.proofs.Common.{refl, rules}
 use Rattle.script.proofs.Spoken.{part-read, line-told}
 use Rattle.script.proofs.Session.read_line.Goals as goal
 

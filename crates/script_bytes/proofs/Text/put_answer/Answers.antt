@@ -1,6 +1,5 @@
 -- `script_bytes::Text::put_answer` meets its contract.
-use Prim.Native.Nat.{◌*◌}
-use native.Mathlib.Omega.{arith}
+use Rattle.std.proofs.Common.{◌*◌, arith}
 use Rattle.script_bytes.proofs.Puts.{room-after, orders-most, puts-done, puts-refused}
 use Rattle.script_bytes.proofs.Text.put_answer.Goals as goal
 
@@ -11,7 +10,8 @@ put_done-requires c =
 
 pub returns-in-Ok : goal.returns-in-Ok
 returns-in-Ok c =
-    puts-done _ _ _ _ c.in-Ok.is c.spoken_count-count.ensures (omega (arith, c.requires, c.spoken_count-count.ensures)) c.put_orders.ensures c.put_done.ensures
+    puts-done _ _ _ _ c.in-Ok.is c.spoken_count-count.ensures (omega (arith, c.requires, c.spoken_count-count.ensures))
+    c.put_orders.ensures c.put_done.ensures
 
 pub returns-in-Err : goal.returns-in-Err
 returns-in-Err c = puts-refused _ _ _ _ c.in-Err.is c.from.ensures c.put_refused.ensures

@@ -1,7 +1,5 @@
 -- `script_bytes::Text::put_byte` meets its contract.
-use mathlib.Core.Path.{refl, ◌∙◌}
-use native.Mathlib.Numerals.{add-one}
-use native.Mathlib.Omega.{arith}
+use Rattle.std.proofs.Common.{refl, ◌∙◌, add-one, arith}
 use lib.Seq.{set_split, append_snoc}
 use Rattle.script_bytes.proofs.Text.put_byte.Goals as goal
 

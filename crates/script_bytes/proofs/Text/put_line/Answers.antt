@@ -1,7 +1,5 @@
 -- `script_bytes::Text::put_line` meets its contract.
-use Prim.Native.Nat.{◌+◌, ◌-◌, ◌*◌}
-use native.Mathlib.Omega.{arith}
-use lib.ListN.{length, get_or}
+use Rattle.std.proofs.Common.{◌+◌, ◌-◌, ◌*◌, length, get_or, arith}
 use Rattle.script_bytes.proofs.Decimal.{decimal-most}
 use Rattle.script_bytes.proofs.Puts.{puts-then, room-after, fields-next, fields-end}
 use Rattle.script_bytes.proofs.Text.put_line.Goals as goal
@@ -18,7 +16,8 @@ pub loop-n-preserved : goal.loop-n-preserved
 loop-n-preserved c =
     let l = c.loop-n in
     let ns = c.args.numbers.now in (
-      room-after 21 (21 * (length ns - (l.n-index + 1)) + 1) c.put_field.ensures (omega (arith, decimal-most (get_or ns l.n-index 0))) (omega (arith, l.invariant.0)),
+      room-after 21 (21 * (length ns - (l.n-index + 1)) + 1) c.put_field.ensures (omega (arith, decimal-most (get_or ns l.n-index 0)))
+          (omega (arith, l.invariant.0)),
       λ z p. l.invariant.1 z (fields-next ns l.n-index (omega arith) (omega (arith, l.invariant.0)) c.put_field.ensures p),
     )
 
@@ -28,4 +27,5 @@ put_byte-requires c = omega (arith, c.loop-n.invariant.0)
 pub returns : goal.returns
 returns c =
     let l = c.loop-n in
-    puts-then c.put_word.ensures (omega (arith, c.requires)) (l.invariant.1 _ (fields-end c.args.numbers.now l.n-index (omega arith) c.put_byte.ensures))
+    puts-then c.put_word.ensures (omega (arith, c.requires))
+    (l.invariant.1 _ (fields-end c.args.numbers.now l.n-index (omega arith) c.put_byte.ensures))

@@ -1,6 +1,5 @@
 -- `script_bytes::Text::put_line` meets its contract. The loop's invariant: what is put of the numbers that are left is put of all of them.
-use Prim.Native.Nat.{◌+◌, ◌-◌, ◌*◌}
-use lib.ListN.{length, drop}
+use Rattle.std.proofs.Common.{◌+◌, ◌-◌, ◌*◌, length, drop}
 use Rattle.model.specs.Printer.{numbers_text}
 use Rattle.script_bytes.specs.declared.Text.{Text}
 use Rattle.script_bytes.specs.Text.{Room, Puts}

@@ -1,10 +1,6 @@
 -- `script_bytes::Text::put_number` meets its contract.
-use mathlib.Core.Path.{◌≡◌, refl, sym, ap, ◌∙◌}
-use mathlib.Core.List.{map, append_assoc}
-use Prim.Native.Nat.{ℕ, ◌+◌, ◌-◌, ◌≤◌}
-use native.Mathlib.Omega.{arith}
-use lib.ListN.{length, take, drop, length-drop}
-use lib.Seq.{length-take-le, drop-drop}
+use Rattle.std.proofs.Common.{◌≡◌, ℕ, ◌+◌, ◌-◌, ◌≤◌, map, length, take, drop, sym, refl, ap, ◌∙◌, append_assoc, arith, length-drop}
+use Rattle.std.proofs.Common.{length-take-le, drop-drop}
 use borrow.Rule.Slice.PartMut.{mid_of, put_mid}
 use Rattle.model.specs.Codes.{character, digits}
 use Rattle.model.specs.Printer.{Bytes, decimal}
@@ -13,7 +9,8 @@ use Rattle.script_bytes.proofs.Decimal.{decimal-most, decimal-digits}
 use Rattle.script_bytes.proofs.Text.put_number.Goals as goal
 
 -- the digits in the place of as many bytes
-written : (out : Bytes) (at n w : ℕ) (ys : Bytes) → w ≡ length (decimal n) → at + w ≤ length out → ys ≡ map character (digits 10 (length (mid_of at (at + w - at) out)) n) → put_mid at (at + w - at) out ys ≡ put_at out at (decimal n)
+written : (out : Bytes) (at n w : ℕ) (ys : Bytes) → w ≡ length (decimal n) → at + w ≤ length out → ys
+    ≡ map character (digits 10 (length (mid_of at (at + w - at) out)) n) → put_mid at (at + w - at) out ys ≡ put_at out at (decimal n)
 unfolding decimal
 written out at n w ys e h f =
     let k : at + w - at ≡ w = omega arith in
@@ -34,6 +31,9 @@ returns c =
     let d = c.write_digits in
     let room : x.at + w.result ≤ length x.out.now = omega (arith, w.ensures, decimal-most c.args.n) in
     record {
-      put = record { buffer = written x.out.now x.at c.args.n w.result d.new.text w.ensures room d.ensures; next = ap (λ (k : ℕ). x.at + k) w.ensures };
+      put = record {
+        buffer = written x.out.now x.at c.args.n w.result d.new.text w.ensures room d.ensures;
+        next = ap (λ (k : ℕ). x.at + k) w.ensures;
+      };
       same_buffer = refl;
     }

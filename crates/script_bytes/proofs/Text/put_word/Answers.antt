@@ -1,10 +1,5 @@
 -- `script_bytes::Text::put_word` meets its contract.
-use mathlib.Core.Path.{◌≡◌, refl}
-use mathlib.Core.List.{append_assoc}
-use Prim.Native.Nat.{ℕ, ◌+◌, ◌-◌}
-use native.Mathlib.Omega.{arith}
-use lib.ListN.{length}
-use lib.Seq.{drop-drop}
+use Rattle.std.proofs.Common.{◌≡◌, ℕ, ◌+◌, ◌-◌, length, refl, append_assoc, arith, drop-drop}
 use borrow.Rule.Slice.PartMut.{put_mid}
 use Rattle.model.specs.Printer.{Bytes}
 use Rattle.script_bytes.specs.Text.{put_at}

@@ -1,4 +1,5 @@
--- `shift::Opened::close_gap` meets its contract. The loop's invariant: the moves from slot i + 1 on are left, and lead to what all of them lead to.
+-- `shift::Opened::close_gap` meets its contract. The loop's invariant: the moves from slot i + 1 on are left, and lead to what all of them
+-- lead to.
 use Rattle.std.proofs.Common.{rules, arith, ◌≡◌, length}
 use Rattle.slots.proofs.Places.{in-use-short}
 use Rattle.orders.proofs.Rest.{rest-start, rest-same, two-first, two-second, two-after, rest-one, rest-next, rest-none}
@@ -12,17 +13,23 @@ pub put-requires : goal.put-requires
 put-requires c = let l = c.loop-i in two-first (gap-next c.args.self.now _ c.last-last.ensures.value l.i (omega arith)) l.invariant.left
 
 pub put-requires-in-loop-i : goal.put-requires-in-loop-i
-put-requires-in-loop-i c = let l = c.loop-i in two-second (gap-next c.args.self.now _ c.last-last.ensures.value l.i (omega arith)) l.invariant.left c.put.ensures
+put-requires-in-loop-i c = let l =
+    c.loop-i in two-second (gap-next c.args.self.now _ c.last-last.ensures.value l.i (omega arith)) l.invariant.left c.put.ensures
 
 pub loop-i-preserved : goal.loop-i-preserved
 loop-i-preserved c = let l = c.loop-i in
-    record { left = two-after (gap-next c.args.self.now _ c.last-last.ensures.value l.i (omega arith)) l.invariant.left c.put.ensures c.put-in-loop-i.ensures }
+    record {
+      left = two-after (gap-next c.args.self.now _ c.last-last.ensures.value l.i (omega arith)) l.invariant.left c.put.ensures
+          c.put-in-loop-i.ensures;
+    }
 
 pub put-requires-2 : goal.put-requires-2
-put-requires-2 c = let l = c.loop-i in rest-one (rest-same (gap-end c.args.self.now _ c.last-last.ensures.value l.i (omega arith)) l.invariant.left)
+put-requires-2 c = let l =
+    c.loop-i in rest-one (rest-same (gap-end c.args.self.now _ c.last-last.ensures.value l.i (omega arith)) l.invariant.left)
 
 pub returns : goal.returns
-returns c = let l = c.loop-i in rest-none (rest-next (rest-same (gap-end c.args.self.now _ c.last-last.ensures.value l.i (omega arith)) l.invariant.left) c.put-2.ensures)
+returns c = let l = c.loop-i in rest-none
+    (rest-next (rest-same (gap-end c.args.self.now _ c.last-last.ensures.value l.i (omega arith)) l.invariant.left) c.put-2.ensures)
 
 pub bounds-self-i : goal.bounds-self-i
 bounds-self-i c = let slots = c.args.self.now.node.slots in

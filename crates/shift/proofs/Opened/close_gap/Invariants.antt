@@ -1,4 +1,5 @@
--- `shift::Opened::close_gap` meets its contract. The loop's invariant: the moves from slot i + 1 on are left, and lead to what all of them lead to.
+-- `shift::Opened::close_gap` meets its contract. The loop's invariant: the moves from slot i + 1 on are left, and lead to what all of them
+-- lead to.
 use Rattle.orders.specs.Desk.{of, stored_all}
 use Rattle.orders.proofs.Rest.{Rest}
 use Rattle.shift.specs.Stores.{gap_closed}

@@ -7,7 +7,10 @@ pub put-requires : goal.put-requires
 put-requires c = rest-one (rest-same (out-start _ _ _ c.place-at.ensures) (rest-start {w = c.args.writer.now} c.requires))
 
 pub close_gap-requires : goal.close_gap-requires
-close_gap-requires c = (rest-next (rest-same (out-start _ _ _ c.place-at.ensures) (rest-start {w = c.args.writer.now} c.requires)) c.put.ensures).room
+close_gap-requires c =
+    (rest-next (rest-same (out-start _ _ _ c.place-at.ensures) (rest-start {w = c.args.writer.now} c.requires)) c.put.ensures).room
 
 pub returns : goal.returns
-returns c = rest-all (rest-next (rest-same (out-start _ _ _ c.place-at.ensures) (rest-start {w = c.args.writer.now} c.requires)) c.put.ensures) c.close_gap.ensures
+returns c = rest-all
+    (rest-next (rest-same (out-start _ _ _ c.place-at.ensures) (rest-start {w = c.args.writer.now} c.requires)) c.put.ensures)
+    c.close_gap.ensures
