@@ -10,6 +10,7 @@
 #include "catalogue_file.h"
 #include "command_line.h"
 #include "commands.h"
+#include "output.h"
 #include "session.h"
 #include "text.h"
 
@@ -37,6 +38,7 @@ static void on_bus_error(int number)
     ssize_t written = write(STDERR_FILENO, why, sizeof why - 1);
     (void)number;
     (void)written;
+    output_abandon();
     _exit(BAD_FILE);
 }
 

@@ -13,6 +13,15 @@
 
 #include "text.h"
 
+/* The file that is being written, for a signal that ends the program. */
+static char *volatile unfinished;
+
+void output_abandon(void)
+{
+    if (unfinished)
+        unlink(unfinished);
+}
+
 static bool is_table(const struct stat *named, const char *table)
 {
     struct stat about;
@@ -31,6 +40,7 @@ static int open_beside(struct output *o, const char *name)
         errno = ENOMEM;
         return -1;
     }
+    unfinished = o->made;
     return open(o->made, O_WRONLY | O_CREAT | O_TRUNC | O_CLOEXEC, 0666);
 }
 
@@ -90,6 +100,7 @@ int output_end(struct output *o, int status)
     /* Once it is in its place there is no such name. */
     if (o->made)
         unlink(o->made);
+    unfinished = NULL;
     free(o->made);
     free(o->name);
     return status;

@@ -18,4 +18,7 @@ int output_begin(struct output *o, const char *name, const char *table);
  */
 int output_end(struct output *o, int status);
 
+/* In a signal that ends the program: what was written so far goes. */
+void output_abandon(void);
+
 #endif
