@@ -213,6 +213,10 @@ def main(library, words):
     edits = [edit for edit in edits if words == [] or edit.name in words or ("--gate" in words and edit.gate)]
     if not edits:
         sys.exit("there is no such edit")
+    if subprocess.run([TOP / "tests/program/may_follow"]).returncode != 0:
+        followed = [edit for edit in edits if edit.test[0] == "fails" or any("instructions." in name for name in edit.test)]
+        print(f"skipped: {len(followed)} faults whose tests follow a program, which may not be done here (ptrace)")
+        edits = [edit for edit in edits if edit not in followed]
     with tempfile.TemporaryDirectory(dir="/dev/shm" if os.access("/dev/shm", os.W_OK) else None) as place:
         work = pathlib.Path(place)
         libraries(work)

@@ -28,7 +28,7 @@ def help_has_an_example_of_each(program, folder):
     assert max(len(line) for line in text.splitlines()) <= 120
     statuses = re.search(r"^Exit status: (.*?)\.$", text, re.M | re.S)[1]
     numbers = [int(item.split()[0]) for item in re.split(";\\s", statuses)]
-    assert numbers == [n for n in range(26) if n != 12] + [64, 65, 74, 130, 143, 254], statuses
+    assert numbers == [n for n in range(27) if n != 12] + [64, 65, 74, 130, 143, 254], statuses
 
 
 def help_of_one_command(program, folder):

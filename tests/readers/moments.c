@@ -15,6 +15,7 @@
 #include "memory.h"
 #include "moment.h"
 #include "open.h"
+#include "sums.h"
 
 #define WORDS 3
 #define MOST_STEPS 64
@@ -71,6 +72,47 @@ uint64_t refresh(struct catalogue_file *f)
 {
     (void)f;
     return 0;
+}
+
+/* The table has no file of sums. */
+uint64_t open_sums(struct catalogue_file *f)
+{
+    (void)f;
+    return 0;
+}
+
+bool sums_fit(const void *sums, const uint64_t *words, uint64_t first, size_t lines)
+{
+    (void)sums;
+    (void)words;
+    (void)first;
+    (void)lines;
+    return true;
+}
+
+uint64_t sums_node(uint64_t line)
+{
+    return line;
+}
+
+uint64_t sums_refuse(struct catalogue_file *f)
+{
+    (void)f;
+    return 0;
+}
+
+bool sums_refused(uint64_t number)
+{
+    (void)number;
+    return false;
+}
+
+uint64_t sums_doubt(struct catalogue_file *f, uint64_t node, uint64_t counter)
+{
+    (void)f;
+    (void)node;
+    (void)counter;
+    return CATALOGUE_FILE_DECAYED;
 }
 
 uint64_t no_memory(struct catalogue_file *f)
