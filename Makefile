@@ -15,7 +15,7 @@ help:
 	@echo "make demo       the same, then the program on a table of a hundred codes, step by step, in target/demo"
 	@echo "make wasm       library, judge and film as the WebAssembly module of the lesson's page: target/wasm/live.wasm"
 	@echo "make check      tests of what is built, a part, in under two minutes"
-	@echo "make test       every test of what is built, but those that want a browser, spin, a spreadsheet or a database"
+	@echo "make test       every test of what is built, but those that want a browser, spin, a spreadsheet, a database or a virtual machine"
 	@echo "make gate       .ci/run: every proof from nothing, every must-fail edit, every test"
 	@echo "make bench      bench/run: the times of searches and changes"
 	@echo "make install    program, libraries, headers, manual pages, completion, Python module (PREFIX=/usr/local, DESTDIR=)"

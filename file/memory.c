@@ -10,6 +10,7 @@
 #include "mapping.h"
 #include "newfile.h"
 #include "summary.h"
+#include "sums.h"
 
 static uint64_t *trailer_of(const struct catalogue_file *f)
 {

@@ -59,10 +59,13 @@
  * A summary is words beside a table too, catalogue_summary_words(N) of them in a slice of their own, half as long as the table: which nodes a
  * root leads to, and which recordings are in use. It lies in ordinary memory: no order stores to it. catalogue_summary checks a table whole
  * and works its summary out, if no change is unfinished. The calls that take it, the quick calls, do not check the table: they look at the
- * nodes on the way to their key alone. With a summary that is true of the table a quick call returns, lists, stores and counts what the plain
- * call does, and leaves the summary true. It is true until something else changes the table: a plain call, one with sentinels, a list that
- * was cut off, another table in its place. Work it out anew then. With any other words a quick call ends and writes to its own slices alone.
- * It may leave a table that is not sound; if it meets a node that does not fit the words, it returns 4 and changes nothing.
+ * nodes on the way to their key, and their siblings, alone. With a summary that is true of the table a quick call returns, lists, stores and
+ * counts what the plain call does, and leaves the summary true, accepted or refused. It is true until something else changes the working copy:
+ * a plain call or one with sentinels that is accepted, a reload after a list that was cut off or not carried out, another table in its place.
+ * After a cut call catalogue_repair first; then, as in the other cases, work the summary out anew with catalogue_summary. With any other words
+ * a quick call ends and writes to its own slices alone. If a node on its way does not fit the words, it returns 4 and changes nothing (a batch,
+ * if it is the way of its first pair). Else it may list, refuse or store what the plain call would not, and leave a table that is not sound.
+ * No call takes sentinels and a summary: a quick call leaves sentinels as they are.
  *
  *     static uint64_t memory[8 + 32 * 100], working[8 + 32 * 100], orders[CATALOGUE_LIST_WORDS];
  *     uint64_t key, recording, access, next, higher, stores, flushes, barriers;
@@ -149,7 +152,7 @@ enum {
     CATALOGUE_BAD_SCRIPT = 23,      /* a script's number: actions that form no such script */
     CATALOGUE_SHORT_FIGURES = 24,   /* wear: a lent slice too short for the lines or for the pairs needed */
     CATALOGUE_BAD_PAIRS = 25,       /* packing: keys that do not rise, a recording or class out of range, or a recording there twice */
-    CATALOGUE_OTHER_SUMMARY = 26,   /* summary not catalogue_summary_words(N) words; comes straight after 17 */
+    CATALOGUE_OTHER_SUMMARY = 26,   /* summary not catalogue_summary_words(N) words; comes straight after 17, or after 2 if no collection is named */
     CATALOGUE_NO = 254,             /* judging: no */
     CATALOGUE_ABSENT = 255          /* search: the key is absent */
 };
@@ -251,7 +254,7 @@ uint64_t catalogue_insert(uint64_t *table, size_t words, uint64_t collection, ui
  * the one before it filled; the table is checked once. It stops at the first pair that is refused. If that is the first one the call returns
  * its number and changes no lent word. Else it returns 0: *taken pairs were taken, with the sums of their stores, flushes and barriers, and
  * *stop is 0 if that is all of them, or the number that refused the next one. A stop at 5 says that the rest of the list has fewer words than
- * a single call needs: carry the list out, and call again with the pairs that are left.
+ * a single call needs: carry the list out, and call again with the pairs that are left. No pairs give 0, and nothing is tested.
  * A cut anywhere in the list leaves the calls before it whole and one call cut. 2, 17, 4, 18, 5, 6, 14, 7, 8, 11, 10.
  */
 uint64_t catalogue_insert_many(uint64_t *table, size_t words, uint64_t collection, uint64_t *orders, size_t order_words, uint64_t dock,
@@ -309,8 +312,9 @@ uint64_t catalogue_summary_words(uint64_t nodes);
 uint64_t catalogue_summary(const uint64_t *table, size_t words, uint64_t *summary, size_t summary_words);
 
 /*
- * As the writing calls, with 26 after 17, and 4 by the nodes on the way alone. A refusal changes no lent word. A table that has a true summary
- * has nothing to repair: a repair gives 0 orders.
+ * As the writing calls, with 26 after 17, and 4 by the nodes on the way alone. A refusal changes no lent word. Insertion: 2, 17, 26, 4, 18, 5, 6,
+ * 14, 7, 8, 11, 10. Deletion: 2, 17, 26, 4, 18, 5, 9. Class change: 2, 17, 26, 4, 18, 5, 14, 9. Repair: 2, 26, 18, 5. A table that has a true summary
+ * has nothing to repair: a quick repair gives 0 orders, whatever the words are. What a cut left is finished by catalogue_repair.
  */
 uint64_t catalogue_quick_insert(uint64_t *table, size_t words, uint64_t *summary, size_t summary_words, uint64_t collection,
                                 uint64_t *orders, size_t order_words, uint64_t dock, uint64_t key, uint64_t recording, uint64_t access,

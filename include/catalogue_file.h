@@ -50,8 +50,9 @@
  *
  * Summaries. A handle opened for writing keeps the table's summary, as catalogue.h describes it, beside its copies. The first change checks the
  * whole table and works the summary out; from then on a change looks at the nodes on the way to its key alone, and stores what it would store
- * without a summary. So do the lines of a load, once there are many. After some lines alone, and if something went wrong, the next change checks
- * the whole table again. If there is no memory for a summary, half as much as the table takes, every change checks the whole table.
+ * without a summary. So do the lines of a load, once there are many. After some lines alone, and after a change that failed or was cut off, the
+ * next change checks the whole table again. If there is no memory for a summary, half as much as the table takes, every change checks the whole
+ * table; catalogue_file_plan always does.
  *
  * Numbers. Calls return 0, a number of catalogue.h, or one from 300 on. The handle keeps a message about the last call that failed, with the
  * file's name and the system's reason, and catalogue_file_strerror has a text for every number. After a failed change
@@ -62,17 +63,18 @@
  *     CATALOGUE_FILE_IN_USE           another writer has the file open: wait longer, or ask it
  *     CATALOGUE_FILE_BUSY             the writer changes the table faster than it can be read: ask again
  *     CATALOGUE_FILE_REPLACED         another file has the name now, or none: close the handle and open it again
- *     CATALOGUE_FILE_CHANGED          a program without the lock stored into the file: nothing more was changed; check the table
- *     CATALOGUE_FILE_OVERWRITTEN      somebody else stored into the handle's copy of the table. Nothing was changed; the next call reads the
- *                                     file again
+ *     CATALOGUE_FILE_CHANGED          a program without the lock stored into the file, or cut it short: nothing more was changed; check the
+ *                                     table
+ *     CATALOGUE_FILE_OVERWRITTEN      somebody else stored into the handle's copy of the table. Nothing was changed, but for the lines that a load
+ *                                     has handed back as added; the next call reads the file again
  *     CATALOGUE_FILE_DISK             a read or a wait for the disk failed: see catalogue_file_outcome. The next change waits for the whole
  *                                     file first; while the disk fails it is not made
  *     CATALOGUE_FILE_FOLDER           a new file took the table's place and has all changes, but its folder was not synced: a power cut can
  *                                     bring the old file back. catalogue_file_sync tries again
  *     CATALOGUE_FILE_NO_FLUSH         nothing was changed: in persistent memory take a flush instruction; a processor whose cache lines have
  *                                     less than 64 bytes can only read
- *     CATALOGUE_FILE_DECAYED          nothing may play: catalogue_file_scrub names the nodes. Compare their codes with another list, or take a copy.
- *                                     catalogue_file_sums with 0, then with 1, takes the table as it stands
+ *     CATALOGUE_FILE_DECAYED          nothing may play: catalogue_file_scrub names the nodes. Compare their codes with another list, or take an
+ *                                     older copy. catalogue_file_sums with 0, then with 1, takes the table as it stands
  *     CATALOGUE_FILE_UNSUMMED         a program that keeps no sums has changed the table: if that is right, catalogue_file_sums with 0, then with 1
  *     CATALOGUE_FILE_BAD_SUMS         nothing may play before TABLE.sums is brought back, or catalogue_file_sums with 0 has taken it away
  */
@@ -114,7 +116,11 @@ enum {
     CATALOGUE_FILE_NOT_TAKEN = 317,   /* load: it ended before this line */
     CATALOGUE_FILE_CUT = 318,         /* only the first orders were carried out, as asked for */
     CATALOGUE_FILE_NO_FLUSH = 319,    /* persistent memory and the flush "none", or a processor with cache lines of less than 64 bytes */
-    CATALOGUE_FILE_OVERWRITTEN = 320  /* the table in memory was changed by somebody else */
+    CATALOGUE_FILE_DECAYED = 320,     /* words do not fit their sum: a bit has decayed, or a program that keeps no sums has stored to them */
+    CATALOGUE_FILE_UNSUMMED = 321,    /* the same, and a program that keeps no sums has changed the table */
+    CATALOGUE_FILE_BAD_SUMS = 322,    /* a file of sums lies beside the table, but is damaged, cannot be read, or is another table's */
+    CATALOGUE_FILE_NO_SUMS = 323,     /* scrub: the table has no file of sums */
+    CATALOGUE_FILE_OVERWRITTEN = 324  /* the handle's copy of the table was changed by somebody else */
 };
 
 /* A text for every number that a call here or in catalogue.h returns: no name, no full stop, never null. */
@@ -390,7 +396,8 @@ uint64_t catalogue_file_scrub(catalogue_file *f, int (*each)(void *context, cons
 
 /*
  * The key of a code in capital or small letters, with hyphens, dashes, spaces, tabs and colons or without, and with ISRC before it or without,
- * or of # and a key's number. Dashes (as an en dash) and spaces that break no line are in UTF-8. length is the text's, or SIZE_MAX for a text that ends with a 0. 0 or 1.
+ * or of # and a key's number. Dashes (as an en dash) and spaces that break no line are in UTF-8. length is the text's, or SIZE_MAX for a text that
+ * ends with a 0. 0 or 1.
  */
 uint64_t catalogue_file_parse(const char *text, size_t length, uint64_t *key);
 
