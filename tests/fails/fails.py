@@ -20,6 +20,7 @@ from drive import BAD_FILE, Program, code, contents, everything, fill, table_byt
 
 FAILING, CALLS = os.environ["FAILING_PROGRAM"], os.environ["CALLS_PROGRAM"]
 OWN = 300  # the file library's own numbers begin here
+OTHER_ANSWER = "998"  # what calls.c makes of 0 with another answer than the table's
 NOT_MADE, MADE, UNKNOWN = 0, 1, 2
 DISK, FOLDER = 308, 309
 
@@ -484,6 +485,8 @@ class ChangedCall(Call):
                     why = f"status {status}"
                 elif "bus" in said and (waits or "cut" not in name):
                     why = "SIGBUS"
+                elif name == "overwritten" and said["call"][0] == OTHER_ANSWER:
+                    pass  # what a program stores without raising the counter is not noticed (docs/READERS.md)
                 elif "bus" not in said and int(said["call"][0]) >= OWN and len(said["call"]) < 5:
                     why = "no message"
                 if why:
