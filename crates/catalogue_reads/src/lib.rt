@@ -39,7 +39,7 @@ pub extern "C" fn catalogue_print(key: u64, text: &mut [u8; 12]) -> u64
     ensures text_after { text.new ≡ characters_of (print key) }
 {
     let code = isrc::print(key);
-    *text = code.unwrap_or([0; 12]);
+    *text = isrc::text_of(code);
     answers::number_of(code)
 }
 

@@ -2,7 +2,7 @@
 #![tactic(auto)]
 
 ghost use Rattle.std.specs.Prelude.{◌≡◌, true, map, ◌≤◌, length};
-ghost use Rattle.model.specs.Codes.{is_letter_or_digit, is_code, value, number, parse, character, digits, spelling, print};
+ghost use Rattle.model.specs.Codes.{is_letter_or_digit, is_code, value, number, parse, character, digits, spelling, print, characters_of};
 ghost use Rattle.model.specs.Lists.{all};
 ghost use Rattle.isrc.specs.Kinds.{test};
 
@@ -122,4 +122,11 @@ pub fn print(key: u64) -> Printed
         Ok(k) if k == key => Ok(text),
         _ => Err(Refusal::NoCode),
     }
+}
+
+// The 12 bytes of what is printed: zero bytes beside a refusal.
+pub fn text_of(printed: Printed) -> [u8; 12]
+    ensures { result ≡ characters_of printed }
+{
+    printed.unwrap_or([0; 12])
 }

@@ -31,16 +31,12 @@ fn show_parse(rt: &impl Print, text: &[u8]) -> io::Result<()> {
 // The key, and its text, or the refusal's number with zeros in the text's place.
 fn show_print(rt: &impl Print, key: u64) -> io::Result<()> {
     print!(rt; "print {key}")?;
-    match isrc::print(key) {
-        Ok(text) => {
-            print!(rt; " text ")?;
-            show(rt, &text)?;
-        }
-        Err(refusal) => {
-            print!(rt; " refused {} ", u64::from(refusal))?;
-            show(rt, &[0u8; 12])?;
-        }
+    let printed = isrc::print(key);
+    match printed {
+        Ok(_) => print!(rt; " text ")?,
+        Err(refusal) => print!(rt; " refused {} ", u64::from(refusal))?,
     }
+    show(rt, &isrc::text_of(printed))?;
     println!(rt; "")
 }
 

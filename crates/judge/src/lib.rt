@@ -152,7 +152,7 @@ fn judge_copy(list: &[u64], out: &mut [u64], plan: &Plan<'_>) -> Verdict
         (decode list.now) 0 none plan.now.table.now }
     ensures out_after { out.new ≡ carry (take (count_of result (length list.now / 2)) (decode list.now)) plan.now.table.now }
 {
-    out.copy_from_slice(plan.table);
+    node::copy(plan.table, out);
     judge_orders(out, list, plan)
 }
 

@@ -234,6 +234,17 @@ pub fn make(table: &mut [u64], collections: u64) -> Outcome
     Ok(())
 }
 
+// The words of one slice put into another of the same length. Word by word: of a length that is not known `copy_from_slice` is a call of memmove,
+// which the archives for C need from nowhere.
+pub fn copy(from: &[u64], to: &mut [u64])
+    requires { length to.old ≡ length from.now }
+    ensures { to.new ≡ from.now }
+{
+    for (w, &word) in from.iter().enumerate() {
+        to[w] = word;
+    }
+}
+
 // The empty table of 4 nodes, with which the order printer and each short script start.
 pub fn first_table() -> [u64; 136]
     ensures { result ≡ empty 4 }

@@ -63,7 +63,7 @@ fn fill(words: &mut [u64], before: usize, pairs: &[u64]) -> usize
     let count = pairs.len() / 2;
     let w = 32 * before;
     let end = 2 * count;
-    words[w..w + end].copy_from_slice(&pairs[..end]);
+    node::copy(&pairs[..end], &mut words[w..w + end]);
     pack::pack(words, before, count)
 }
 

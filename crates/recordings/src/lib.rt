@@ -421,17 +421,16 @@ fn once(table: &[u64], marks: &Marks) -> bool
     requires { header_ok table.now ≡ true }
     ensures { result ≡ distinct (marked_numbers (view table.now) marks.now) }
 {
-    // Fixed memory, no heap. Three arrays, each lent by itself: after a round two of them change places by reference, and none is copied.
+    // Fixed memory, no heap. The places hit twice are a new array in each round: it and the suspects in two arrays that change places by reference
+    // are both zeroed twice in the first round, which mostly is the last.
     let mut places = [0u64; ONCE];
-    let mut even = [0u64; TWICE];
-    let mut odd = [0u64; TWICE];
-    let mut olds = &mut odd;
-    let mut twice = &mut even;
+    let mut olds = [0u64; TWICE];
     for round in 0..ROUNDS {
-        match step(olds, &mut places, twice, table, marks, round) {
+        let mut twice = [0u64; TWICE];
+        match step(&olds, &mut places, &mut twice, table, marks, round) {
             Ok(()) => return true,
             Err(Stop::Known) => return false,
-            Err(Stop::Full) => std::mem::swap(&mut olds, &mut twice),
+            Err(Stop::Full) => olds = twice,
         }
     }
     compared_once(table, marks)

@@ -36,7 +36,7 @@ pub fn first_list() -> [u64; 2560]
 // ---- lines
 
 // A request's call on the table.
-fn act(table: &mut [u64], list: &mut [u64], request: Request) -> Written
+pub fn act(table: &mut [u64], list: &mut [u64], request: Request) -> Written
     ensures value { result ≡ answer_to request (desk_of table.old list.old) }
     ensures table_after { table.new ≡ (do_request (Ok (Some request)) (desk_of table.old list.old)).desk.table }
     ensures list_after { list.new ≡ (do_request (Ok (Some request)) (desk_of table.old list.old)).desk.list }

@@ -92,47 +92,38 @@ fn next_place(place: Place, plus: bool, b: u8) -> Place
 }
 
 // The line at another place, all else the same.
-fn moved(s: LineState, place: Place) -> LineState
-    ensures { result ≡ moved s place }
+fn moved(s: &mut LineState, place: Place)
+    ensures { s.new ≡ moved s.old place }
 {
-    LineState { place, ..s }
+    s.place = place;
 }
 
 // The line with its sign.
-fn with_sign(s: LineState, b: u8) -> LineState
-    ensures { result ≡ with_sign s b }
+fn with_sign(s: &mut LineState, b: u8)
+    ensures { s.new ≡ with_sign s.old b }
 {
-    LineState {
-        place: Place::Sign,
-        plus: b == b'+',
-        ..s
-    }
+    s.place = Place::Sign;
+    s.plus = b == b'+';
 }
 
 // One character more.
-fn longer(text: Characters, b: u8) -> Characters
-    ensures { result ≡ longer text b }
+fn longer(text: &mut Characters, b: u8)
+    ensures { text.new ≡ longer text.old b }
 {
     if 12 <= text.count {
-        return Characters { count: 13, ..text };
+        text.count = 13;
+        return;
     }
-    let mut bytes = text.bytes;
-    bytes[text.count] = b;
-    Characters {
-        bytes,
-        count: text.count + 1,
-    }
+    text.bytes[text.count] = b;
+    text.count += 1;
 }
 
 // The line with one character more of its code.
-fn with_character(s: LineState, b: u8) -> LineState
-    ensures { result ≡ with_character s b }
+fn with_character(s: &mut LineState, b: u8)
+    ensures { s.new ≡ with_character s.old b }
 {
-    LineState {
-        place: Place::Code,
-        code: longer(s.code, b),
-        ..s
-    }
+    s.place = Place::Code;
+    longer(&mut s.code, b);
 }
 
 // The number with one byte more, which is to be a digit and leave it within a word. `char::to_digit(10)` is no plainer: it takes a char and answers a
@@ -147,22 +138,21 @@ fn next_number(n: u64, b: u8) -> Option<u64>
 }
 
 // The line with one byte more of its recording.
-fn with_digit(s: LineState, b: u8) -> LineState
-    ensures { result ≡ with_digit s b }
+fn with_digit(s: &mut LineState, b: u8)
+    ensures { s.new ≡ with_digit s.old b }
 {
     match next_number(s.recording, b) {
-        Some(recording) => LineState {
-            place: Place::Recording,
-            recording,
-            ..s
-        },
+        Some(recording) => {
+            s.place = Place::Recording;
+            s.recording = recording;
+        }
         None => moved(s, Place::Other),
     }
 }
 
-// The line with one byte more, which is no line feed.
-fn take(s: LineState, b: u8) -> LineState
-    ensures { result ≡ step s b }
+// The line with one byte more, which is no line feed. In place: a line that goes in and comes back by value is copied for each byte.
+fn take(s: &mut LineState, b: u8)
+    ensures { s.new ≡ step s.old b }
 {
     let place = next_place(s.place, s.plus, b);
     match place {
@@ -185,7 +175,7 @@ pub fn read_line(line: LineState, piece: &[u8]) -> LineRead
                 end: Some(i + 1),
             };
         }
-        s = take(s, b);
+        take(&mut s, b);
     }
     LineRead { line: s, end: None }
 }

@@ -32,8 +32,16 @@ fn shown(rt: &impl Print, read: LineRead) -> io::Result<LineState> {
 
 fn read_piece(rt: &impl Print, line: LineState, piece: &[u8]) -> io::Result<LineState> {
     let mut s = line;
-    for part in piece.split_inclusive(|&b| b == b'\n') {
-        s = shown(rt, script_bytes::read_line(s, part))?;
+    let mut rest = piece;
+    // With the bytes past the line feed: how many a line uses shows too. A turn uses one at least.
+    for _ in 0..piece.len() {
+        let read = script_bytes::read_line(s, rest);
+        let used = read.end.unwrap_or(rest.len());
+        s = shown(rt, read)?;
+        rest = rest.get(used..).unwrap_or_default();
+        if rest.is_empty() {
+            break;
+        }
     }
     Ok(s)
 }

@@ -1,5 +1,5 @@
 -- What a search sees of the node that it stands on, where it stands on each level, and its answer from the pointer of the key's slot.
-use Rattle.std.specs.Prelude.{Bool, cond, ℕ, leb, Result, Ok, Err, Some, None}
+use Rattle.std.specs.Prelude.{Bool, true, false, cond, ℕ, leb, Result, Ok, Err, Some, None}
 use Rattle.std.specs.Prelude as rust
 use Rattle.std.proofs.Math.Option.{Option, none, some}
 use Rattle.model.specs.declared.Answer.{Answer}
@@ -51,6 +51,13 @@ answer_held (Some p) absent = found p
 abbrev pub numbered : Result Answer Refusal → Answer
 numbered (Ok x) = x
 numbered (Err r) = Refused (refusal_number r)
+
+-- A refusal is an Err: no Ok has one.
+abbrev pub is_plain : Result Answer Refusal → Bool
+is_plain (Ok (Found recording access)) = true
+is_plain (Ok (Absent next)) = true
+is_plain (Ok (Refused number)) = false
+is_plain (Err r) = true
 
 -- the next key up, or the number of a refusal
 abbrev pub absent_by : Result Next Refusal → Answer

@@ -5,7 +5,7 @@ ghost use Rattle.std.specs.Prelude.{◌≡◌, true, ◌&&◌, leb};
 ghost use Rattle.model.specs.Table.{header_ok, has_node, node, nodes};
 ghost use Rattle.model.specs.Slots.{view};
 ghost use Rattle.model.specs.Search.{on_level, down, next_from, search};
-ghost use Rattle.search.specs.Descent.{looked_at, seen_in, read_if, stand_on, locate_from, found, numbered, absent_by, answer_held};
+ghost use Rattle.search.specs.Descent.{looked_at, seen_in, read_if, stand_on, locate_from, found, numbered, is_plain, absent_by, answer_held};
 
 use model::{Answer, Node, Refusal};
 
@@ -166,7 +166,8 @@ fn next_from(table: &[u64], leaf: u64, read: Node, key: u64) -> Result<Option<u6
 pub fn answer(table: &[u64], m: u64, held: Option<u64>, key: u64) -> Result<Answer, Refusal>
     requires table_value { header_ok table.now ≡ true }
     requires m_value { on_level (view table.now) 0 m ≡ true }
-    ensures { numbered result ≡ answer_held held (next_from (view table.now) (nodes table.now) m key) }
+    ensures value { numbered result ≡ answer_held held (next_from (view table.now) (nodes table.now) m key) }
+    ensures plain { is_plain result ≡ true }
 {
     if let Some(held) = held {
         return Ok(found(held));

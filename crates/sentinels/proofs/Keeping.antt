@@ -19,9 +19,8 @@ use Rattle.cut_laws.proofs.FlushRule.{orders-stores}
 use Rattle.cut_laws.proofs.Barriers.{barred-stores}
 use Rattle.list_laws.proofs.Tools.{double-suc, or-swap}
 use Rattle.sentinel_laws.proofs.Slices.{Fits, fits, plain-call}
-use Rattle.two_laws.proofs.MapsTwo.{sound-after, nodes-after}
+use Rattle.two_laws.proofs.MapsTwo.{sound-after, nodes-after, accepted-steps}
 use Rattle.two_laws.proofs.AcceptedTwo.{accepted-iff}
-use Rattle.two_laws.proofs.MapsTwo.{accepted-steps}
 use Rattle.two_laws.proofs.SearchTwo.{sound-head}
 use Rattle.two_laws.proofs.DocksTwo.{list-fits}
 use Rattle.cut_laws.proofs.Lent.{header-length, length-encode}

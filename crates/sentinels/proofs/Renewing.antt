@@ -13,10 +13,9 @@ use Rattle.tree_laws.proofs.Rows.{range-iff}
 use Rattle.two_laws.proofs.CollectionTwo.{reached-up}
 use Rattle.two_laws.proofs.SearchTwo.{sound-head}
 use Rattle.sentinel_laws.proofs.Leaves.{leaves-level}
-use Rattle.node.specs.Word.{word_of}
+use Rattle.node.specs.Word.{word_of, words_at}
 use Rattle.node.proofs.WordLaws.{word-level}
 use Rattle.sentinels.proofs.Reading.{line-is}
-use Rattle.node.specs.Word.{words_at}
 use Rattle.sentinels.specs.Lines.{line_of}
 
 -- ---- whether a node is a leaf

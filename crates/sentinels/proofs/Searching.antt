@@ -30,7 +30,7 @@ use Rattle.tree_laws.proofs.Rows.{range-iff}
 use Rattle.sentinel_laws.proofs.Searches.{with-tree, plain-tree}
 use Rattle.slots.specs.Held.{held_by}
 use Rattle.slots.specs.Scan.{shown_from}
-use Rattle.node.specs.Word.{root_in, number_in, found_root}
+use Rattle.node.specs.Word.{root_in, number_in, found_root, words_at, word_of}
 use Rattle.node.proofs.Roots.{found-there, found-ok, found-err}
 use Rattle.search.specs.declared.Stood.{Stood}
 use Rattle.search.specs.Descent.{seen_in, read_if, stand_on, locate_from, answer_held, found}
@@ -40,7 +40,6 @@ use Rattle.search.proofs.Standing.{got-some, level-out, level-in, locate-leaf, l
 use Rattle.search.proofs.Standing.{pass-off, not-read, level-read}
 use Rattle.sentinels.proofs.Refusing.{length_number, length-is, rest-number, collection-number}
 use Rattle.sentinels.proofs.Reading.{line-is}
-use Rattle.node.specs.Word.{words_at, word_of}
 use Rattle.node.proofs.WordLaws.{word-level, word-fence}
 use Rattle.sentinels.specs.Lines.{line_of, as_option}
 

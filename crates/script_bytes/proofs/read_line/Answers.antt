@@ -46,7 +46,7 @@ pub returns-then-b-eq10 : goal.returns-then-b-eq10
 returns-then-b-eq10 c = at-feed _ _ _ (omega arith) c.if-b-eq10.true ∙ sym c.loop-i.invariant
 
 pub loop-i-preserved : goal.loop-i-preserved
-loop-i-preserved c = c.loop-i.invariant ∙ at_other _ c.loop-i.i c.args.piece.now (omega arith) c.if-b-eq10.false _ c.take-s.ensures
+loop-i-preserved c = c.loop-i.invariant ∙ at_other _ c.loop-i.i c.args.piece.now (omega arith) c.if-b-eq10.false _ c.take.ensures
 
 pub returns : goal.returns
 returns c = at-end _ c.loop-i.i c.args.piece.now (omega arith) ∙ sym c.loop-i.invariant

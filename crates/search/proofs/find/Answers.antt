@@ -28,4 +28,4 @@ answer-requires-clause-m_value c =
 pub returns : goal.returns
 returns c =
     let f = found-ok _ _ (sym c.find_root.ensures ∙ c.in_ok-root.was) in
-    answered _ _ _ _ f.0 f.1 _ (sym c.descend.ensures ∙ got-some _ (sym c.ok_or.ensures.value ∙ c.in_ok-s.was)) _ c.answer.ensures
+    answered _ _ _ _ f.0 f.1 _ (sym c.descend.ensures ∙ got-some _ (sym c.ok_or.ensures.value ∙ c.in_ok-s.was)) _ c.answer.ensures.value
